@@ -1,0 +1,46 @@
+-- Laws of tests: of two at once, and of each number below n. Assumes nothing.
+use Prim.Native.Nat.{ℕ, zero, suc, _<_}
+use mathlib.Core.Path.{_≡_, refl}
+use mathlib.Core.Bool.{Bool, true, false, _&&_}
+use native.Mathlib.Omega.{arith}
+use native.Mathlib.Decide.{decLt}
+use Rattle.bits.specs.Below.{every}
+
+pub and-left : (a b : Bool) → a && b ≡ true → a ≡ true
+and-left true b e = refl
+and-left false b e = e
+
+pub and-right : (a b : Bool) → a && b ≡ true → b ≡ true
+and-right true b e = e
+and-right false true e = refl
+and-right false false e = e
+
+pub and-both : (a b : Bool) → a ≡ true → b ≡ true → a && b ≡ true
+and-both a b p q = rw (p, q)
+
+-- a test holds or fails by whether it can be shown to hold
+pub same-test : (a b : Bool) → (a ≡ true → b ≡ true) → (b ≡ true → a ≡ true) → a ≡ b
+same-test true true f g = refl
+same-test true false f g = rw (f refl)
+same-test false true f g = g refl
+same-test false false f g = refl
+
+pub every-at : (t : ℕ → Bool) (n : ℕ) → every t n ≡ true → (k : ℕ) → k < n → t k ≡ true
+every-at t zero e k h = absurd (omega arith)
+every-at t (suc n) e k h = go (every-at t n (and-left (every t n) (t n) e) k) (decLt k n)
+  where
+    go : (k < n → t k ≡ true) → Dec (k < n) → t k ≡ true
+    go ih (yes l) = ih l
+    go ih (no l) = let z : k ≡ n = omega arith in rw z (and-right (every t n) (t n) e)
+
+pub every-all : (t : ℕ → Bool) (n : ℕ) → ((k : ℕ) → k < n → t k ≡ true) → every t n ≡ true
+every-all t zero h = refl
+every-all t (suc n) h = and-both (every t n) (t n) (every-all t n (λ k l. h k (omega arith))) (h n (omega arith))
+
+-- one number that fails the test
+pub every-not : (t : ℕ → Bool) (n k : ℕ) → k < n → t k ≡ false → every t n ≡ false
+every-not t n k h e = go (every t n) refl
+  where
+    go : (b : Bool) → every t n ≡ b → b ≡ false
+    go false p = refl
+    go true p = rw (every-at t n p k h) at e

@@ -1,0 +1,4 @@
+pub mod Words
+pub mod Bits
+pub mod Below
+pub mod Windows

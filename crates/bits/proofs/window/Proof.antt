@@ -1,0 +1,14 @@
+use Rattle.bits.specs.Steps.{windowAt}
+use borrow.Author.Needs.{needs}
+use Rattle.bits.proofs.window.Statement.{statement}
+use Rattle.bits.proofs.window.Tie as tie
+
+returns : tie.Need-returns
+unfolding windowAt
+returns c = rw (c .wider3 .ensures .0, c .before .byte3 .ensures, c .before .before .wider2 .ensures .0, c .before .before .before .byte2 .ensures, c .before .before .before .before .wider .ensures .0, c .before .before .before .before .before .byte .ensures)
+
+pub window-spec : {M : Type 1} → statement M
+window-spec =
+    tie.close
+    (tie.spec (search needs) (search needs) (search needs) (search needs) (search needs) (search needs) (search needs)
+    (search needs) (search needs) (search needs) (search needs) (search needs) returns)

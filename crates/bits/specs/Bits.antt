@@ -1,0 +1,27 @@
+-- Bits of a list of bytes, the first bit highest. A bit is the number 0 or 1. Assumes nothing.
+use Prim.Native.Nat.{ℕ, zero, suc, _+_, _-_, _*_, _/_, _%_, _^_}
+use mathlib.Core.List.{List, [], _∷_}
+use lib.ListN.{getD}
+
+-- bit i of the bytes m
+abbrev pub bitAt : List ℕ → ℕ → ℕ
+bitAt m i = getD m (i / 8) 0 / 2 ^ (7 - i % 8) % 2
+
+-- the n bits of m from bit i on
+abbrev pub bitsFrom : List ℕ → ℕ → ℕ → List ℕ
+bitsFrom m i zero = []
+bitsFrom m i (suc n) = bitAt m i ∷ bitsFrom m (i + 1) n
+
+-- the number that bits denote after the number acc
+abbrev pub numberOn : ℕ → List ℕ → ℕ
+numberOn acc [] = acc
+numberOn acc (b ∷ bs) = numberOn (acc * 2 + b) bs
+
+-- the number that the n bits of m from bit i on denote
+unfoldable pub fieldAt : List ℕ → ℕ → ℕ → ℕ
+fieldAt m i n = numberOn 0 (bitsFrom m i n)
+
+-- the n low bits of v, the highest first
+unfoldable pub bitsOf : ℕ → ℕ → List ℕ
+bitsOf zero v = []
+bitsOf (suc n) v = v / 2 ^ n % 2 ∷ bitsOf n v

@@ -1,0 +1,12 @@
+-- Words of 16 bits over a list of bytes, the most significant byte first (RULES 1.1). Assumes nothing.
+use Prim.Native.Nat.{ℕ, _+_, _*_, _/_, _%_}
+use mathlib.Core.List.{List}
+use lib.ListN.{getD, set}
+
+-- word i of the bytes m
+unfoldable pub wordAt : List ℕ → ℕ → ℕ
+wordAt m i = getD m (2 * i) 0 * 256 + getD m (2 * i + 1) 0
+
+-- the bytes m with v stored as word i
+unfoldable pub withWord : List ℕ → ℕ → ℕ → List ℕ
+withWord m i v = set (set m (2 * i) (v / 256)) (2 * i + 1) (v % 256)

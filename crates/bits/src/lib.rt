@@ -1,0 +1,75 @@
+// Words, bits and fields of lent bytes, the highest first. Past the end a byte reads 0, and a store there changes nothing.
+ghost use mathlib.Core.Path.{_≡_};
+ghost use Prim.Native.Nat.{_^_, _≤_, _<_};
+ghost use lib.ListN.{getD, set};
+ghost use Rattle.bits.specs.Words.{wordAt, withWord};
+ghost use Rattle.bits.specs.Bits.{bitAt, fieldAt};
+ghost use Rattle.bits.specs.Steps.{windowAt};
+
+// Byte i.
+pub fn byte(bytes: &[u8], i: usize) -> u8
+    ensures { λ r. ⌜ r ≡ getD (now (bytes .entry)) i 0 ⌝ }
+{
+    if i < bytes.len() { bytes[i] } else { 0 }
+}
+
+// Stores b as byte i.
+pub fn store_byte(bytes: &mut [u8], i: usize, b: u8)
+    ensures { λ _. ⌜ now (bytes .exit) ≡ set (now (bytes .entry)) i b ⌝ }
+{
+    if i < bytes.len() {
+        bytes[i] = b;
+    }
+}
+
+fn wide(b: u8) -> u16
+    ensures { λ r. ⌜ (r ≡ b) × (r < 256) ⌝ }
+{
+    b as u16
+}
+
+// Word i.
+pub fn word(bytes: &[u8], i: usize) -> u16
+    requires { ⌜ i < 2 ^ 62 ⌝ }
+    ensures { λ r. ⌜ r ≡ wordAt (now (bytes .entry)) i ⌝ }
+{
+    wide(byte(bytes, 2 * i)) * 256 + wide(byte(bytes, 2 * i + 1))
+}
+
+// Stores v as word i.
+pub fn store_word(bytes: &mut [u8], i: usize, v: u16)
+    requires { ⌜ i < 2 ^ 62 ⌝ }
+    ensures { λ _. ⌜ now (bytes .exit) ≡ withWord (now (bytes .entry)) i v ⌝ }
+{
+    store_byte(bytes, 2 * i, (v / 256) as u8);
+    store_byte(bytes, 2 * i + 1, (v % 256) as u8);
+}
+
+// Bit i, 0 or 1.
+pub fn bit(bytes: &[u8], i: usize) -> u16
+    ensures { λ r. ⌜ (r ≡ bitAt (now (bytes .entry)) i) × (r < 2) ⌝ }
+{
+    (wide(byte(bytes, i / 8)) >> (7 - i % 8)) % 2
+}
+
+fn wider(b: u8) -> u32
+    ensures { λ r. ⌜ (r ≡ b) × (r < 256) ⌝ }
+{
+    b as u32
+}
+
+// The three bytes from byte k on, as one number.
+fn window(bytes: &[u8], k: usize) -> u32
+    requires { ⌜ k < 2 ^ 62 ⌝ }
+    ensures { λ r. ⌜ r ≡ windowAt (now (bytes .entry)) k ⌝ }
+{
+    (wider(byte(bytes, k)) * 256 + wider(byte(bytes, k + 1))) * 256 + wider(byte(bytes, k + 2))
+}
+
+// The number that the n bits from bit `at` on denote. They lie in a window of three bytes.
+pub fn field(bytes: &[u8], at: usize, n: usize) -> u16
+    requires { ⌜ (n ≤ 16) × (at < 2 ^ 62) ⌝ }
+    ensures { λ r. ⌜ (r ≡ fieldAt (now (bytes .entry)) at n) × (r < 2 ^ n) ⌝ }
+{
+    ((window(bytes, at / 8) >> (24 - at % 8 - n)) % (1 << n)) as u16
+}

@@ -1,0 +1,109 @@
+-- Many shifts of the register at once: code that is linear and right at each single bit is right. Assumes nothing.
+use Prim.Native.Nat.{ℕ, zero, suc, _+_, _*_, _/_, _%_, _^_, _<_, _≤_}
+use mathlib.Core.Path.{_≡_, refl, sym, ap, ap₂, _∙_}
+use mathlib.Core.Bool.{Bool, true}
+use mathlib.Core.List.{_∷_}
+use native.Mathlib.Nat.{mod-lt, mul-le-mul-right}
+use native.Mathlib.Omega.{arith}
+use lib.Dec.{eqb}
+use borrow.Author.Tests.{eqb-true}
+use Rattle.bits.specs.Below.{every}
+use lib.Pow.{pow-pos, pow-add, shr-lt, split, high, low}
+use lib.Bits.{bitXor, xor-shr, xor-mod, xor-self, xor-shifted}
+use Rattle.bits.specs.Bits.{bitsOf}
+use Rattle.crc.specs.Crc.{run}
+use Rattle.crc.proofs.Xor.{xor-medial, xor-shl}
+use Rattle.crc.proofs.Linear.{Bits, Same, zip, run-linear}
+use Rattle.bits.proofs.Below.{every-at}
+use Rattle.bits.proofs.Bits.{low-bits}
+
+-- functions that take `^` to `^`, and how they are made
+pub record Linear (f : ℕ → ℕ) : Type 0 where
+  pub sums : (a b : ℕ) → f (bitXor a b) ≡ bitXor (f a) (f b)
+
+pub both : {f g : ℕ → ℕ} → Linear f → Linear g → Linear (λ x. bitXor (f x) (g x))
+both {f} {g} p q = record { sums = λ a b. ap₂ bitXor (p .sums a b) (q .sums a b) ∙ xor-medial (f a) (f b) (g a) (g b) }
+
+pub then : {f g : ℕ → ℕ} → Linear f → Linear g → Linear (λ x. g (f x))
+then {f} {g} p q = record { sums = λ a b. ap g (p .sums a b) ∙ q .sums (f a) (f b) }
+
+pub same : Linear (λ x. x)
+same = record { sums = λ a b. refl }
+
+pub right : (k : ℕ) → Linear (λ x. x / 2 ^ k)
+right k = record { sums = λ a b. xor-shr a b k }
+
+pub cut : (w : ℕ) → Linear (λ x. x % 2 ^ w)
+cut w = record { sums = λ a b. xor-mod a b w }
+
+pub left : (w k : ℕ) → Linear (λ x. x * 2 ^ k % 2 ^ w)
+left w k = then (record { sums = λ a b. sym (xor-shl k a b) }) (cut w)
+
+-- where two of them agree at each power of two, they agree
+linear-zero : {f : ℕ → ℕ} → Linear f → f 0 ≡ 0
+linear-zero {f} p = p .sums 0 0 ∙ xor-self (f 0)
+
+top : (a p : ℕ) → a < 2 → {f g : ℕ → ℕ} → Linear f → Linear g → f p ≡ g p → f (a * p) ≡ g (a * p)
+top zero p h l m e = let z : 0 * p ≡ 0 = omega arith in rw z (linear-zero l ∙ sym (linear-zero m))
+top (suc zero) p h l m e = let z : 1 * p ≡ p = omega arith in rw z e
+top (suc (suc a)) p h l m e = absurd (omega arith)
+
+agree : (n : ℕ) {f g : ℕ → ℕ} → Linear f → Linear g → ((i : ℕ) → i < n → f (2 ^ i) ≡ g (2 ^ i)) → (x : ℕ) → x < 2 ^ n → f x ≡ g x
+agree zero l m t x h = let z : x ≡ 0 = omega arith in rw z (linear-zero l ∙ sym (linear-zero m))
+agree (suc n) {f} {g} l m t x h =
+    let b : x % 2 ^ n < 2 ^ n = mod-lt x (pow-pos n) in
+    let e : x ≡ bitXor (x / 2 ^ n * 2 ^ n) (x % 2 ^ n) = sym (xor-shifted (x / 2 ^ n) n (x % 2 ^ n) b ∙ split x n) in
+    let s : 1 + n ≡ suc n = omega arith in
+    let a : x / 2 ^ n < 2 = shr-lt 1 n (rw s h) in
+    ap f e
+    ∙ l .sums (x / 2 ^ n * 2 ^ n) (x % 2 ^ n)
+    ∙ ap₂ bitXor (top (x / 2 ^ n) (2 ^ n) a l m (t n (omega arith))) (agree n l m (λ i s. t i (omega arith)) (x % 2 ^ n) b)
+    ∙ sym (ap g e ∙ m .sums (x / 2 ^ n * 2 ^ n) (x % 2 ^ n))
+
+-- n shifts, of a register and n bits that stand in one number
+unfoldable pub shifts : ℕ → ℕ → ℕ
+shifts n u = run (u / 2 ^ n % 65536) (bitsOf n u)
+
+word-bits : (n v : ℕ) → Bits (bitsOf n v)
+unfolding bitsOf
+word-bits zero v = tt
+word-bits (suc n) v = (mod-lt (v / 2 ^ n) (omega arith), word-bits n v)
+
+same-bits : (n x y : ℕ) → Same (bitsOf n x) (bitsOf n y)
+unfolding bitsOf
+same-bits zero x y = tt
+same-bits (suc n) x y = same-bits n x y
+
+zip-bits : (n x y : ℕ) → zip (bitsOf n x) (bitsOf n y) ≡ bitsOf n (bitXor x y)
+unfolding bitsOf
+zip-bits zero x y = refl
+zip-bits (suc n) x y = ap₂ _∷_ (sym (then (right n) (cut 1) .sums x y)) (zip-bits n x y)
+
+shifts-linear : (n : ℕ) → Linear (shifts n)
+unfolding shifts
+shifts-linear n =
+    record {
+      sums = λ a b.
+          ap₂ run (then (right n) (cut 16) .sums a b) (sym (zip-bits n a b))
+          ∙ run-linear (bitsOf n a) (bitsOf n b) (a / 2 ^ n % 65536) (b / 2 ^ n % 65536) (omega arith) (omega arith) (word-bits n a) (word-bits n b) (same-bits n a b);
+    }
+
+-- the test at the single bits
+unfoldable pub test : ℕ → (ℕ → ℕ → ℕ) → ℕ → Bool
+test n code i = eqb (shifts n (2 ^ i)) (code (2 ^ i / 2 ^ n) (2 ^ i % 2 ^ n))
+
+below-all : (r p w : ℕ) → r < 65536 → w < p → r * p + w < 65536 * p
+below-all r p w hr hw = let h : r * p ≤ 65535 * p = mul-le-mul-right p (omega arith) in omega arith
+
+-- n shifts of the register r by the bits of w are what the code makes of the two
+pub steps : (n : ℕ) (code : ℕ → ℕ → ℕ) → Linear (λ u. code (u / 2 ^ n) (u % 2 ^ n)) → every (test n code) (16 + n) ≡ true → (r w : ℕ) → r < 65536 → w < 2 ^ n
+    → run r (bitsOf n w) ≡ code r w
+unfolding shifts test
+steps n code l t r w hr hw =
+    let u = r * 2 ^ n + w in
+    let register : u / 2 ^ n % 65536 ≡ r = rw (high r n hw) (omega arith) in
+    let small : u < 2 ^ (16 + n) = rw (pow-add 2 16 n) (below-all r (2 ^ n) w hr hw) in
+    ap₂ run (sym register) (sym (low-bits n r w))
+    ∙ agree (16 + n) (shifts-linear n) l
+    (λ i h. eqb-true (shifts n (2 ^ i)) (code (2 ^ i / 2 ^ n) (2 ^ i % 2 ^ n)) (every-at (test n code) (16 + n) t i h)) u small
+    ∙ ap₂ code (high r n hw) (low r n hw)

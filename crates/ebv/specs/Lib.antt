@@ -1,0 +1,2 @@
+pub mod Ebv
+pub mod Cases
