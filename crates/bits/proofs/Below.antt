@@ -1,10 +1,14 @@
 -- Laws of tests: of two at once, and of each number below n. Assumes nothing.
 use Prim.Native.Nat.{ℕ, zero, suc, _<_}
 use mathlib.Core.Path.{_≡_, refl}
-use mathlib.Core.Bool.{Bool, true, false, _&&_}
+use mathlib.Core.Bool.{Bool, true, false, cond, _&&_, _||_}
+use mathlib.Core.Logic.{_⊎_, inl, inr}
+use lib.Dec.{eqb}
+use borrow.Author.Tests.{eqb-true, eqb-false}
 use native.Mathlib.Omega.{arith}
 use native.Mathlib.Decide.{decLt}
-use Rattle.bits.specs.Below.{every}
+use mathlib.Core.List.{List, [], _∷_}
+use Rattle.bits.specs.Below.{every, all, allOn}
 
 pub and-left : (a b : Bool) → a && b ≡ true → a ≡ true
 and-left true b e = refl
@@ -44,3 +48,35 @@ every-not t n k h e = go (every t n) refl
     go : (b : Bool) → every t n ≡ b → b ≡ false
     go false p = refl
     go true p = rw (every-at t n p k h) at e
+
+-- a list of tests, as a list of facts
+abbrev pub Each : List Bool → Type 0
+Each [] = Unit {0}
+Each (c ∷ cs) = (c ≡ true) × Each cs
+
+all-on : (b : Bool) (cs : List Bool) → allOn b cs ≡ true → (b ≡ true) × Each cs
+all-on b [] e = (e, tt)
+all-on b (c ∷ cs) e = let h = all-on (b && c) cs e in (and-left b c (h .0), (and-right b c (h .0), h .1))
+
+on-all : (b : Bool) (cs : List Bool) → b ≡ true → Each cs → allOn b cs ≡ true
+on-all b [] p h = p
+on-all b (c ∷ cs) p h = on-all (b && c) cs (and-both b c p (h .0)) (h .1)
+
+pub all-each : (cs : List Bool) → all cs ≡ true → Each cs
+all-each cs e = all-on true cs e .1
+
+pub each-all : (cs : List Bool) → Each cs → all cs ≡ true
+each-all cs h = on-all true cs refl h
+
+pub or-cases : (a b : Bool) → a || b ≡ true → (a ≡ true) ⊎ (b ≡ true)
+or-cases true b e = inl refl
+or-cases false b e = inr e
+
+-- a choice by whether two numbers are equal
+module _ (a b : ℕ) (x y : Bool) where
+  pub cond-test : (a ≡ b → x ≡ true) → ((a ≡ b → ⊥) → y ≡ true) → cond (eqb a b) x y ≡ true
+  cond-test f g = go (eqb a b) refl
+    where
+      go : (t : Bool) → eqb a b ≡ t → cond t x y ≡ true
+      go true e = f (eqb-true a b e)
+      go false e = g (eqb-false a b e)

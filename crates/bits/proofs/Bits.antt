@@ -5,6 +5,7 @@ use mathlib.Core.List.{List, [], _∷_, _++_}
 use native.Mathlib.Nat.{suc-add, pow-suc, add-mul-div-right, add-zero, add-suc, mod-lt, mod-one}
 use native.Mathlib.Numerals.{add-one}
 use native.Mathlib.Omega.{arith}
+use native.Mathlib.Decide.{decLt}
 use lib.ListN.{length, getD}
 use lib.Pow.{shr-shr, pow-pos, mod-pow-add}
 use Rattle.bits.specs.Bits.{bitAt, bitsFrom, numberOn, fieldAt, bitsOf}
@@ -73,3 +74,26 @@ next-byte m k n h =
     ap (bitsFrom m (8 * k)) z
     ∙ bits-append m (8 * k) 8 (n - 8 * (k + 1))
     ∙ ap₂ _++_ (byte-tail m k 8 (8 * k) (omega arith) (omega arith)) (ap (λ (i : ℕ). bitsFrom m i (n - 8 * (k + 1))) y)
+
+-- a number's n low bits are 0 where it is a multiple of 2 ^ n
+no-part : (a p : ℕ) → a < 2 → 0 < p → a * p ≡ 0 → a ≡ 0
+no-part zero p h s e = refl
+no-part (suc zero) p h s e = absurd (omega arith)
+no-part (suc (suc a)) p h s e = absurd (omega arith)
+
+low-part : (v n : ℕ) → v % 2 ^ suc n ≡ v / 2 ^ n % 2 * 2 ^ n + v % 2 ^ n
+low-part v n = let z : 1 + n ≡ suc n = omega arith in rw z at (mod-pow-add v 1 n)
+
+pub low-zero : (v n : ℕ) → v % 2 ^ n ≡ 0 → (t : ℕ) → t < n → v / 2 ^ t % 2 ≡ 0
+low-zero v zero e t h = absurd (omega arith)
+low-zero v (suc n) e t h = go (low-zero v n (omega (arith, low-part v n)) t) (decLt t n)
+  where
+    go : (t < n → v / 2 ^ t % 2 ≡ 0) → Dec (t < n) → v / 2 ^ t % 2 ≡ 0
+    go ih (yes l) = ih l
+    go ih (no l) =
+        let z : t ≡ n = omega arith in
+        rw z (no-part (v / 2 ^ n % 2) (2 ^ n) (mod-lt (v / 2 ^ n) (omega arith)) (pow-pos n) (omega (arith, low-part v n)))
+
+pub zero-low : (v n : ℕ) → ((t : ℕ) → t < n → v / 2 ^ t % 2 ≡ 0) → v % 2 ^ n ≡ 0
+zero-low v zero h = mod-one v
+zero-low v (suc n) h = rw (low-part v n, h n (omega arith), zero-low v n (λ t l. h t (omega arith))) (omega arith)

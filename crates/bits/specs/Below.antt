@@ -1,4 +1,4 @@
--- Counting up from 0: a list of n elements, and a test of n numbers. Assumes nothing.
+-- Counting up from 0: a list of n elements, and a test of n numbers. A list of tests. Assumes nothing.
 use Prim.Native.Nat.{ℕ, zero, suc}
 use mathlib.Core.Bool.{Bool, true, _&&_}
 use mathlib.Core.List.{List, [], _∷_, _++_}
@@ -12,3 +12,11 @@ below f (suc n) = below f n ++ (f n ∷ [])
 abbrev pub every : (ℕ → Bool) → ℕ → Bool
 every t zero = true
 every t (suc n) = every t n && t n
+
+-- each of a list of tests holds
+abbrev pub allOn : Bool → List Bool → Bool
+allOn b [] = b
+allOn b (c ∷ cs) = allOn (b && c) cs
+
+abbrev pub all : List Bool → Bool
+all cs = allOn true cs

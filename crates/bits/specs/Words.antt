@@ -1,6 +1,6 @@
 -- Words of 16 bits over a list of bytes, the most significant byte first (RULES 1.1). Assumes nothing.
 use Prim.Native.Nat.{ℕ, _+_, _*_, _/_, _%_}
-use mathlib.Core.List.{List}
+use mathlib.Core.List.{List, [], _∷_}
 use lib.ListN.{getD, set}
 
 -- word i of the bytes m
@@ -10,3 +10,16 @@ wordAt m i = getD m (2 * i) 0 * 256 + getD m (2 * i + 1) 0
 -- the bytes m with v stored as word i
 unfoldable pub withWord : List ℕ → ℕ → ℕ → List ℕ
 withWord m i v = set (set m (2 * i) (v / 256)) (2 * i + 1) (v % 256)
+
+-- one word store: where, and what
+pub record Store : Type 0 where
+  pub at : ℕ
+  pub value : ℕ
+
+abbrev pub store : ℕ → ℕ → Store
+store i v = record { at = i; value = v }
+
+-- the bytes m after some stores, in order
+abbrev pub after : List ℕ → List Store → List ℕ
+after m [] = m
+after m (s ∷ ss) = after (withWord m (s .at) (s .value)) ss

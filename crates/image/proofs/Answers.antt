@@ -1,0 +1,51 @@
+-- The check's answer from its steps, and what a caller learns from it. Assumes nothing.
+use Prim.Native.Nat.{ℕ, _+_, _*_, _≤_, _<_}
+use mathlib.Core.Path.{_≡_, refl, sym, _∙_, subst}
+use mathlib.Core.Bool.{Bool, true, false, not, cond}
+use mathlib.Core.List.{List}
+use native.Mathlib.Omega.{arith}
+use lib.ListN.{length}
+use borrow.Author.Tests.{le-ltb, ltb-false}
+use Rattle.image.specs.declared.Layout.{Layout}
+use Rattle.image.specs.Layout.{end, layoutOf, headerGood}
+use Rattle.image.specs.Content.{contentGood}
+use Rattle.image.specs.Check.{Checked, refused, good, short, headerWrong, contentBroken, checkOf}
+use Rattle.image.specs.Rules.{Header, Good}
+use Rattle.image.specs.Steps.{contentFits}
+use Rattle.image.proofs.Rules.{header-both, content-both}
+use Rattle.image.proofs.Fits.{same-content}
+
+-- past the header the answer is that of the content's steps
+pub from-content : (m : List ℕ) {y : Layout} → y ≡ layoutOf m → 32 ≤ length m → headerGood y m ≡ true → {b : Bool} → b ≡ contentFits y m
+    → cond b (good y) (refused 3) ≡ checkOf m
+unfolding checkOf
+from-content m {y} p l h {b} e =
+    let same : contentGood (layoutOf m) m ≡ b = rw (← p) (same-content y m (header-both y m .0 h) ∙ sym e) in
+    let head : headerGood (layoutOf m) m ≡ true = rw p at h in
+    rw p (simp (le-ltb _ _ l, head, same) (go b))
+  where
+    go : (b : Bool) → cond b (good (layoutOf m)) (refused 3) ≡ cond (not b) (refused 3) (good (layoutOf m))
+    go true = refl
+    go false = refl
+
+-- an image is found good where it is good, and only there; its layout is what its header says
+pub good-check : (m : List ℕ) → Good m → checkOf m ≡ good (layoutOf m)
+unfolding checkOf
+good-check m g =
+    let h = g .header in
+    let long : 32 ≤ length m = omega arith in
+    simp (le-ltb _ _ long, header-both _ m .1 h, content-both _ m .1 (g .content))
+
+never : (n : ℕ) {y : Layout} → refused n ≡ good y → ⊥
+never n e = let z : _≡_ {A = ℕ} 0 1 = cc in omega arith
+
+pub check-good : (m : List ℕ) (y : Layout) → checkOf m ≡ good y → (y ≡ layoutOf m) × Good m
+unfolding checkOf
+check-good m y = go (short m) (headerGood (layoutOf m) m) (contentGood (layoutOf m) m) refl refl
+  where
+    go : (a b c : Bool) → headerGood (layoutOf m) m ≡ b → contentGood (layoutOf m) m ≡ c
+        → cond a (refused 1) (cond (not b) (refused 2) (cond (not c) (refused 3) (good (layoutOf m)))) ≡ good y → (y ≡ layoutOf m) × Good m
+    go true b c p q e = absurd (never 1 e)
+    go false false c p q e = absurd (never 2 e)
+    go false true false p q e = absurd (never 3 e)
+    go false true true p q e = (cc, record { header = header-both _ m .0 p; content = content-both _ m .0 q })

@@ -1,0 +1,37 @@
+-- What the image check answers (RULES 5.1 to 5.3). Assumes nothing.
+use Prim.Native.Nat.{ℕ}
+use mathlib.Core.Bool.{Bool, not}
+use mathlib.Core.List.{List, [], _∷_}
+use lib.Dec.{ltb}
+use lib.ListN.{length}
+use Rattle.image.specs.declared.Layout.{Layout}
+use Rattle.image.specs.declared.Fit.{Fit}
+use Rattle.image.specs.declared.Fit.the-variants as fit
+use Rattle.image.specs.Layout.{layoutOf, headerGood}
+use Rattle.image.specs.Content.{contentGood}
+use Rattle.image.specs.First.{first}
+
+-- a number of the answer table, or 0 with the layout
+pub data Checked : Type 0 where
+  refused : ℕ → Checked
+  good : Layout → Checked
+
+-- the number and values of each answer in the code
+abbrev pub meaning : Fit → Checked
+meaning fit.Short = refused 1
+meaning fit.Header = refused 2
+meaning fit.Content = refused 3
+meaning (fit.Good y) = good y
+
+abbrev pub short : List ℕ → Bool
+short m = ltb (length m) 32
+
+abbrev pub headerWrong : List ℕ → Bool
+headerWrong m = not (headerGood (layoutOf m) m)
+
+abbrev pub contentBroken : List ℕ → Bool
+contentBroken m = not (contentGood (layoutOf m) m)
+
+unfoldable pub checkOf : List ℕ → Checked
+checkOf m =
+    first ((refused 1, short m) ∷ (refused 2, headerWrong m) ∷ (refused 3, contentBroken m) ∷ []) (good (layoutOf m))
