@@ -49,3 +49,7 @@ check-good m y = go (short m) (headerGood (layoutOf m) m) (contentGood (layoutOf
     go false false c p q e = absurd (never 2 e)
     go false true false p q e = absurd (never 3 e)
     go false true true p q e = (cc, record { header = header-both _ m .0 p; content = content-both _ m .0 q })
+
+-- a good image is at most 4,802 words
+pub good-size : (m : List ℕ) → Good m → length m ≤ 2 * 4802
+good-size m g = let h = g .header in omega arith

@@ -4,3 +4,4 @@ pub mod First
 pub mod Check
 pub mod Rules
 pub mod Steps
+pub mod Worked

@@ -1,3 +1,4 @@
+-- `bits::bit` meets its contract: a shift and a remainder. Assumes nothing.
 use native.Mathlib.Omega.{arith}
 use native.Mathlib.Nat.{mod-lt}
 use borrow.Author.Needs.{needs}

@@ -1,3 +1,4 @@
+-- `bits::byte` meets its contract: past the end a byte reads 0. Assumes nothing.
 use denote.Ref.{now}
 use lib.ListN.{List·getD-eq-default}
 use mathlib.Core.Path.{sym}

@@ -1,3 +1,4 @@
+-- `bits::store_byte` meets its contract: past the end nothing is stored. Assumes nothing.
 use denote.Ref.{now}
 use lib.Seq.{set-out}
 use mathlib.Core.Path.{sym}

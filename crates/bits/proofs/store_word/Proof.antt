@@ -1,3 +1,4 @@
+-- `bits::store_word` meets its contract: two bytes, the higher first. Assumes nothing.
 use Rattle.bits.specs.Words.{withWord}
 use borrow.Author.Needs.{needs}
 use Rattle.bits.proofs.store_word.Statement.{statement}

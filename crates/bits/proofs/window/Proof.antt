@@ -1,3 +1,4 @@
+-- `bits::window` meets its contract: three bytes, the highest first. Assumes nothing.
 use Rattle.bits.specs.Steps.{windowAt}
 use borrow.Author.Needs.{needs}
 use Rattle.bits.proofs.window.Statement.{statement}

@@ -1,3 +1,4 @@
+-- `bits::word` meets its contract: two bytes, the higher first. Assumes nothing.
 use Rattle.bits.specs.Words.{wordAt}
 use borrow.Author.Needs.{needs}
 use Rattle.bits.proofs.word.Statement.{statement}

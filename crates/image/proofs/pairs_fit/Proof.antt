@@ -1,3 +1,4 @@
+-- `image::pairs_fit` meets its contract. Invariant: the pairs passed may be pending. Assumes nothing.
 use Rattle.image.specs.Steps.{pairFits}
 use Rattle.bits.proofs.Below.{every-not, and-both}
 use Rattle.bits.specs.Below.{every}
@@ -10,9 +11,6 @@ use mathlib.Core.Path.{_≡_, refl, sym, _∙_}
 use Prim.Native.Nat.{_-_, _≤_}
 use Rattle.image.proofs.pairs_fit.Statement.{statement}
 use Rattle.image.proofs.pairs_fit.Tie as tie
-use Rattle.image.proofs.pairs_fit.Reads as reads
-use Rattle.image.proofs.pairs_fit.Lts as lts
-use Rattle.image.proofs.pair_fits.Reads as pair-fits-reads
 
 abbrev Inv-loop : tie.InvT-loop
 Inv-loop image y unit c j₀ j = (j ≤ c) × (every (pairFits y image) j ≡ true)
@@ -20,33 +18,17 @@ Inv-loop image y unit c j₀ j = (j ≤ c) × (every (pairFits y image) j ≡ tr
 abbrev μ-loop : tie.MeasureT-loop
 μ-loop image y unit c j₀ j = c - j
 
--- src/lib.rt:232:5
 loop-holds : tie.Need-loop-holds Inv-loop μ-loop
 loop-holds c = (omega arith, refl)
 
--- src/lib.rt:233:13
-pair-fits-requires : tie.Need-pair-fits-requires Inv-loop μ-loop
-pair-fits-requires c κs = search needs
-
--- src/lib.rt:234:13
 returns : tie.Need-returns Inv-loop μ-loop
 returns c = let l = c .before .before .before .loop in
     sym (every-not _ _ (l .j) (c .before .before .loop-test .taken) (sym (c .before .pair-fits .ensures) ∙ not-true _ (c .if1 .taken)))
 
--- src/lib.rt:236:9
-add-j : tie.Need-add-j Inv-loop μ-loop
-add-j c = search needs
-
--- src/lib.rt:232:5
-loop-less : tie.Need-loop-less Inv-loop μ-loop
-loop-less c = search needs
-
--- src/lib.rt:232:5
 loop-again : tie.Need-loop-again Inv-loop μ-loop
 loop-again c = let l = c .before .before .before .loop in
     (omega arith, rw (add-one (l .j)) (and-both _ _ (l .inv .1) (sym (c .before .pair-fits .ensures) ∙ not-false _ (c .if1 .left))))
 
--- src/lib.rt:227:1
 returns-2 : tie.Need-returns-2 Inv-loop μ-loop
 returns-2 c = let l = c .before .loop in
     let e : l .j ≡ c .before .before .before .args .c = omega arith in
@@ -55,13 +37,4 @@ returns-2 c = let l = c .before .loop in
 pub pairs-fit-spec : {M : Type 1} → statement M
 pairs-fit-spec =
     tie.close
-    (tie.spec
-    Inv-loop
-    μ-loop
-    loop-holds
-    pair-fits-requires
-    returns
-    add-j
-    loop-less
-    loop-again
-    returns-2)
+    (tie.spec Inv-loop μ-loop loop-holds (search needs) returns (search needs) (search needs) loop-again returns-2)
