@@ -1,4 +1,5 @@
 pub mod Words
 pub mod Bits
 pub mod Below
+pub mod First
 pub mod Steps

@@ -9,7 +9,7 @@ use Rattle.image.specs.declared.Fit.{Fit}
 use Rattle.image.specs.declared.Fit.the-variants as fit
 use Rattle.image.specs.Layout.{layoutOf, headerGood}
 use Rattle.image.specs.Content.{contentGood}
-use Rattle.image.specs.First.{first}
+use Rattle.bits.specs.First.{first}
 
 -- a number of the answer table, or 0 with the layout
 pub data Checked : Type 0 where

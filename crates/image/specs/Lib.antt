@@ -1,6 +1,5 @@
 pub mod Layout
 pub mod Content
-pub mod First
 pub mod Check
 pub mod Rules
 pub mod Steps

@@ -1,0 +1,44 @@
+-- The bits of each reply (RULES 3.9 and 3.10). Assumes nothing.
+use Prim.Native.Nat.{ℕ, zero, suc, _+_, _*_, _/_}
+use mathlib.Core.List.{List, [], _∷_, _++_}
+use Rattle.bits.specs.Words.{wordAt}
+use Rattle.bits.specs.Bits.{bitsOf}
+use Rattle.crc.specs.Crc.{crcOf}
+use Rattle.replies.specs.declared.Reply.{Reply}
+use Rattle.replies.specs.declared.Reply.the-variants.{Silence, Number, Success, Words, Error}
+
+-- the bits of k words of the image m from word i on
+unfoldable pub wordsBits : List ℕ → ℕ → ℕ → List ℕ
+wordsBits m i zero = []
+wordsBits m i (suc k) = wordsBits m i k ++ bitsOf 16 (wordAt m (i + k))
+
+-- 3.10: bits with the CRC-16 over all of them behind them
+unfoldable pub checked : List ℕ → List ℕ
+checked bs = bs ++ bitsOf 16 (crcOf bs)
+
+-- 3.9: a number alone; a handle after a 0; words and the handle after a 0; a code and the handle after a 1
+abbrev pub replyBits : List ℕ → Reply → List ℕ
+replyBits m Silence = []
+replyBits m (Number n) = checked (bitsOf 16 n)
+replyBits m (Success h) = checked (0 ∷ bitsOf 16 h)
+replyBits m (Words i k h) = checked ((0 ∷ wordsBits m i k) ++ bitsOf 16 h)
+replyBits m (Error e h) = checked ((1 ∷ bitsOf 8 e) ++ bitsOf 16 h)
+
+-- how many bits a reply has, and the bytes that it takes
+abbrev pub replyLength : Reply → ℕ
+replyLength Silence = 0
+replyLength (Number n) = 32
+replyLength (Success h) = 33
+replyLength (Words i k h) = 16 * k + 33
+replyLength (Error e h) = 41
+
+abbrev pub replyBytes : Reply → ℕ
+replyBytes r = (replyLength r + 7) / 8
+
+-- the words of the image that a reply shows end before this word
+abbrev pub replyEnd : Reply → ℕ
+replyEnd Silence = 0
+replyEnd (Number n) = 0
+replyEnd (Success h) = 0
+replyEnd (Words i k h) = i + k
+replyEnd (Error e h) = 0
