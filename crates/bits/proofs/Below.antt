@@ -1,14 +1,16 @@
 -- Laws of tests: of two at once, and of each number below n. Assumes nothing.
 use Prim.Native.Nat.{ℕ, zero, suc, _<_}
-use mathlib.Core.Path.{_≡_, refl}
+use mathlib.Core.Path.{_≡_, refl, ap, ap₂}
 use mathlib.Core.Bool.{Bool, true, false, cond, _&&_, _||_}
 use mathlib.Core.Logic.{_⊎_, inl, inr}
 use lib.Dec.{eqb}
 use borrow.Author.Tests.{eqb-true, eqb-false}
 use native.Mathlib.Omega.{arith}
 use native.Mathlib.Decide.{decLt}
-use mathlib.Core.List.{List, [], _∷_}
-use Rattle.bits.specs.Below.{every, all, allOn}
+use mathlib.Core.List.{List, [], _∷_, _++_}
+use lib.ListN.{length, length-append}
+use native.Mathlib.Numerals.{add-one}
+use Rattle.bits.specs.Below.{below, every, all, allOn}
 
 pub and-left : (a b : Bool) → a && b ≡ true → a ≡ true
 and-left true b e = refl
@@ -80,3 +82,16 @@ module _ (a b : ℕ) (x y : Bool) where
       go : (t : Bool) → eqb a b ≡ t → cond t x y ≡ true
       go true e = f (eqb-true a b e)
       go false e = g (eqb-false a b e)
+
+-- lists of f 0 .. f (n - 1): their length, from the front, and by their elements
+pub length-below : {A : Type 0} (f : ℕ → A) (n : ℕ) → length (below f n) ≡ n
+length-below f zero = refl
+length-below f (suc n) = simp (length-append, length-below f n) (add-one n)
+
+pub below-cons : {A : Type 0} (f : ℕ → A) (n : ℕ) → below f (suc n) ≡ f 0 ∷ below (λ j. f (suc j)) n
+below-cons f zero = refl
+below-cons {A} f (suc n) = ap (λ (l : List A). l ++ (f (suc n) ∷ [])) (below-cons f n)
+
+pub below-same : {A : Type 0} (f g : ℕ → A) (n : ℕ) → ((j : ℕ) → j < n → f j ≡ g j) → below f n ≡ below g n
+below-same f g zero h = refl
+below-same {A} f g (suc n) h = ap₂ (λ (l : List A) (x : A). l ++ (x ∷ [])) (below-same f g n (λ j l. h j (omega arith))) (h n (omega arith))

@@ -6,9 +6,11 @@ use native.Mathlib.Nat.{suc-add, pow-suc, add-mul-div-right, add-zero, add-suc, 
 use native.Mathlib.Numerals.{add-one}
 use native.Mathlib.Omega.{arith}
 use native.Mathlib.Decide.{decLt}
-use lib.ListN.{length, getD}
+use lib.ListN.{length, getD, drop}
+use lib.Seq.{getD-drop}
 use lib.Pow.{shr-shr, pow-pos, mod-pow-add}
-use Rattle.bits.specs.Bits.{bitAt, bitsFrom, numberOn, fieldAt, bitsOf}
+use Rattle.bits.specs.Bits.{bitAt, bitsFrom, numberOn, fieldAt, bitsOf, wordsBits}
+use Rattle.bits.specs.Words.{wordAt}
 
 pub bit-lt : (m : List ℕ) (i : ℕ) → bitAt m i < 2
 bit-lt m i = mod-lt (getD m (i / 8) 0 / 2 ^ (7 - i % 8)) (omega arith)
@@ -97,3 +99,40 @@ low-zero v (suc n) e t h = go (low-zero v n (omega (arith, low-part v n)) t) (de
 pub zero-low : (v n : ℕ) → ((t : ℕ) → t < n → v / 2 ^ t % 2 ≡ 0) → v % 2 ^ n ≡ 0
 zero-low v zero h = mod-one v
 zero-low v (suc n) h = rw (low-part v n, h n (omega arith), zero-low v n (λ t l. h t (omega arith))) (omega arith)
+
+-- a word's bits, and those of several, are the bits that stand there
+pub word-bits : (m : List ℕ) (i : ℕ) → getD m (2 * i + 1) 0 < 256 → bitsFrom m (16 * i) 16 ≡ bitsOf 16 (wordAt m i)
+unfolding wordAt
+word-bits m i h =
+    let a = getD m (2 * i) 0 in
+    let b = getD m (2 * i + 1) 0 in
+    let q : (a * 256 + b) / 2 ^ 8 ≡ a = omega arith in
+    bits-append m (16 * i) 8 8
+    ∙ ap₂ _++_ (byte-tail m (2 * i) 8 (16 * i) (omega arith) (omega arith)) (byte-tail m (2 * i + 1) 8 (16 * i + 8) (omega arith) (omega arith))
+    ∙ sym (bits-split 8 8 (a * 256 + b) ∙ ap₂ _++_ (ap (bitsOf 8) q) (low-bits 8 a b))
+
+pub words-bits : (m : List ℕ) (i k : ℕ) → ((j : ℕ) → getD m j 0 < 256) → bitsFrom m (16 * i) (16 * k) ≡ wordsBits m i k
+unfolding wordsBits
+words-bits m i zero h = refl
+words-bits m i (suc k) h =
+    let e : 16 * suc k ≡ 16 * k + 16 = omega arith in
+    let f : 16 * i + 16 * k ≡ 16 * (i + k) = omega arith in
+    ap (bitsFrom m (16 * i)) e
+    ∙ bits-append m (16 * i) (16 * k) 16
+    ∙ ap₂ _++_ (words-bits m i k h) (ap (λ (x : ℕ). bitsFrom m x 16) f ∙ word-bits m (i + k) (h (2 * (i + k) + 1)))
+
+-- words that agree have the same bits
+pub words-same : (m n : List ℕ) (i k : ℕ) → ((j : ℕ) → i ≤ j → j < i + k → wordAt m j ≡ wordAt n j) → wordsBits m i k ≡ wordsBits n i k
+unfolding wordsBits
+words-same m n i zero h = refl
+words-same m n i (suc k) h =
+    ap₂ _++_ (words-same m n i k (λ j a b. h j a (omega arith))) (ap (bitsOf 16) (h (i + k) (omega arith) (omega arith)))
+
+-- the bits of a part of the bytes
+pub bits-drop : (m : List ℕ) (k i n : ℕ) → bitsFrom (drop k m) i n ≡ bitsFrom m (8 * k + i) n
+bits-drop m k i zero = refl
+bits-drop m k i (suc n) =
+    let q : (8 * k + i) / 8 ≡ k + i / 8 = omega arith in
+    let r : (8 * k + i) % 8 ≡ i % 8 = omega arith in
+    let z : 8 * k + (i + 1) ≡ 8 * k + i + 1 = omega arith in
+    ap₂ _∷_ (rw (q, r, getD-drop k m (i / 8) 0)) (bits-drop m k (i + 1) n ∙ ap (λ (x : ℕ). bitsFrom m x n) z)

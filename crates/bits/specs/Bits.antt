@@ -1,7 +1,8 @@
 -- Bits of a list of bytes, the first bit highest. A bit is the number 0 or 1. Assumes nothing.
 use Prim.Native.Nat.{ℕ, zero, suc, _+_, _-_, _*_, _/_, _%_, _^_}
-use mathlib.Core.List.{List, [], _∷_}
+use mathlib.Core.List.{List, [], _∷_, _++_}
 use lib.ListN.{getD}
+use Rattle.bits.specs.Words.{wordAt}
 
 -- bit i of the bytes m
 abbrev pub bitAt : List ℕ → ℕ → ℕ
@@ -25,3 +26,8 @@ fieldAt m i n = numberOn 0 (bitsFrom m i n)
 unfoldable pub bitsOf : ℕ → ℕ → List ℕ
 bitsOf zero v = []
 bitsOf (suc n) v = v / 2 ^ n % 2 ∷ bitsOf n v
+
+-- the bits of k words of m from word i on
+unfoldable pub wordsBits : List ℕ → ℕ → ℕ → List ℕ
+wordsBits m i zero = []
+wordsBits m i (suc k) = wordsBits m i k ++ bitsOf 16 (wordAt m (i + k))

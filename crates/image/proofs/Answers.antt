@@ -28,28 +28,30 @@ from-content m {y} p l h {b} e =
     go true = refl
     go false = refl
 
--- an image is found good where it is good, and only there; its layout is what its header says
-pub good-check : (m : List ℕ) → Good m → checkOf m ≡ good (layoutOf m)
+-- an image is found good where it is good, and only there
+pub good-check : (y : Layout) (m : List ℕ) → Good y m → checkOf m ≡ good y
 unfolding checkOf
-good-check m g =
+good-check y m g =
     let h = g .header in
     let long : 32 ≤ length m = omega arith in
-    simp (le-ltb _ _ long, header-both _ m .1 h, content-both _ m .1 (g .content))
+    simp (le-ltb _ _ long, ← g .layout, header-both y m .1 h, content-both y m .1 (g .content))
 
 never : (n : ℕ) {y : Layout} → refused n ≡ good y → ⊥
 never n e = let z : _≡_ {A = ℕ} 0 1 = cc in omega arith
 
-pub check-good : (m : List ℕ) (y : Layout) → checkOf m ≡ good y → (y ≡ layoutOf m) × Good m
+pub check-good : (m : List ℕ) (y : Layout) → checkOf m ≡ good y → Good y m
 unfolding checkOf
 check-good m y = go (short m) (headerGood (layoutOf m) m) (contentGood (layoutOf m) m) refl refl
   where
     go : (a b c : Bool) → headerGood (layoutOf m) m ≡ b → contentGood (layoutOf m) m ≡ c
-        → cond a (refused 1) (cond (not b) (refused 2) (cond (not c) (refused 3) (good (layoutOf m)))) ≡ good y → (y ≡ layoutOf m) × Good m
+        → cond a (refused 1) (cond (not b) (refused 2) (cond (not c) (refused 3) (good (layoutOf m)))) ≡ good y → Good y m
     go true b c p q e = absurd (never 1 e)
     go false false c p q e = absurd (never 2 e)
     go false true false p q e = absurd (never 3 e)
-    go false true true p q e = (cc, record { header = header-both _ m .0 p; content = content-both _ m .0 q })
+    go false true true p q e =
+        let l : layoutOf m ≡ y = cc in
+        subst (λ (y : Layout). Good y m) l (record { layout = refl; header = header-both _ m .0 p; content = content-both _ m .0 q })
 
 -- a good image is at most 4,802 words
-pub good-size : (m : List ℕ) → Good m → length m ≤ 2 * 4802
-good-size m g = let h = g .header in omega arith
+pub good-size : (y : Layout) (m : List ℕ) → Good y m → length m ≤ 2 * 4802
+good-size y m g = let h = g .header in omega arith

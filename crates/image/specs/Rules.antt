@@ -42,7 +42,8 @@ pub record Content (y : Layout) (m : List ℕ) : Type 0 where
   pub count : countIn y m ≤ pairsIn y
   pub places : (j : ℕ) → j < countIn y m → mayGo y (pairAt y m j .at) ≡ true
 
--- 1.2 to 1.15: a good image; the content rules hold after none of the pending values, and again after each of them
-pub record Good (m : List ℕ) : Type 0 where
-  pub header : Header (layoutOf m) m
-  pub content : (k : ℕ) → Content (layoutOf m) (after m (take k (pending (layoutOf m) m)))
+-- 1.2 to 1.15: m is a good image of the layout y; the content rules hold after none of the pending values, and again after each of them
+pub record Good (y : Layout) (m : List ℕ) : Type 0 where
+  pub layout : y ≡ layoutOf m
+  pub header : Header y m
+  pub content : (k : ℕ) → Content y (after m (take k (pending y m)))
