@@ -9,7 +9,7 @@ use native.Mathlib.Decide.{decLt}
 use lib.Dec.{eqb}
 use lib.ListN.{length, take}
 use borrow.Author.Tests.{eqb-true, eqb-false, ne-eqb}
-use Rattle.bits.specs.Words.{wordAt, withWord, Store, after}
+use Rattle.bits.specs.Words.{wordAt, withWord, Store, after, All}
 use Rattle.bits.specs.Below.{below}
 use Rattle.bits.proofs.Words.{length-with, word-with-same, word-with-other}
 
@@ -30,7 +30,7 @@ pub after-append : (m : List ℕ) (ss ts : List Store) → after m (ss ++ ts) �
 after-append m [] ts = refl
 after-append m (s ∷ ss) ts = after-append (withWord m (s .at) (s .value)) ss ts
 
-word-with : (m : List ℕ) (o v i : ℕ) → In i m → wordAt (withWord m o v) i ≡ cond (eqb i o) v (wordAt m i)
+pub word-with : (m : List ℕ) (o v i : ℕ) → In i m → wordAt (withWord m o v) i ≡ cond (eqb i o) v (wordAt m i)
 word-with m o v i h = go (eqb i o) refl
   where
     go : (b : Bool) → eqb i o ≡ b → wordAt (withWord m o v) i ≡ cond b v (wordAt m i)
@@ -42,11 +42,6 @@ unfolding last
 word-after m [] i h = refl
 word-after m (s ∷ ss) i h =
     word-after (withWord m (s .at) (s .value)) ss i (rw length-with h) ∙ ap (λ (d : ℕ). last i d ss) (word-with m (s .at) (s .value) i h)
-
--- every store of a list has the property P
-abbrev pub All : (Store → Type 0) → List Store → Type 0
-All P [] = Unit {0}
-All P (s ∷ ss) = P s × All P ss
 
 pub all-take : (P : Store → Type 0) (k : ℕ) (ss : List Store) → All P ss → All P (take k ss)
 all-take P zero ss h = tt

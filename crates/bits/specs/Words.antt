@@ -23,3 +23,8 @@ store i v = record { at = i; value = v }
 abbrev pub after : List ℕ → List Store → List ℕ
 after m [] = m
 after m (s ∷ ss) = after (withWord m (s .at) (s .value)) ss
+
+-- every store of a list has the property P
+abbrev pub All : (Store → Type 0) → List Store → Type 0
+All P [] = Unit {0}
+All P (s ∷ ss) = P s × All P ss

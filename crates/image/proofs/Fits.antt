@@ -14,7 +14,7 @@ use Rattle.bits.specs.Words.{wordAt, Store, store, after}
 use Rattle.bits.specs.Below.{every}
 use Rattle.bits.proofs.Below.{and-left, and-right, and-both, or-cases, cond-test, same-test, every-at, every-all, all-each, each-all}
 use Rattle.bits.proofs.Bits.{low-zero, zero-low}
-use Rattle.bits.proofs.Stores.{All, Under, Fine, Fits, all-below, below-all, all-take, under-avoids, after-avoids, after-fine, fine-fits}
+use Rattle.bits.proofs.Stores.{Under, Fine, Fits, all-below, below-all, all-take, under-avoids, after-avoids, after-fine, fine-fits}
 use Rattle.image.specs.declared.Section.{Section}
 use Rattle.image.specs.declared.Layout.{Layout}
 use Rattle.image.specs.Layout.{end, blocksIn, pairsIn}
@@ -74,7 +74,7 @@ module _ (y : Layout) (h : List ℕ) (g : Header y h) where
       let n : y .status .at + 1 ≡ y .status .at → ⊥ = omega arith in
       ltb-true v 2 (simp (ne-eqb _ _ n, eq-eqb (y .status .at + 1) (y .status .at + 1) refl) at e)
 
-  at-pc : (v : ℕ) → Ok y (y .epc .at + 1) v → v / 2048 + 2 ≤ y .epc .words
+  pub at-pc : (v : ℕ) → Ok y (y .epc .at + 1) v → v / 2048 + 2 ≤ y .epc .words
   unfolding mayStand
   at-pc v e =
       let n : y .epc .at + 1 ≡ y .status .at → ⊥ = omega arith in

@@ -13,7 +13,7 @@ use Rattle.bits.specs.Words.{wordAt, Store, store, after}
 use Rattle.bits.specs.Bits.{bitAt, bitsFrom, wordsBits}
 use Rattle.bits.proofs.Bits.{bits-drop, words-bits}
 use Rattle.crc.specs.Crc.{crcOf}
-use Rattle.bits.proofs.Stores.{All, Under, all-append, below-all, after-append, after-avoids, length-after}
+use Rattle.bits.proofs.Stores.{Under, all-append, below-all, after-append, after-avoids, length-after}
 use Rattle.bits.proofs.Words.{word-with-other}
 use Rattle.image.specs.declared.Layout.{Layout}
 use Rattle.image.specs.Layout.{end, pairsIn}
@@ -130,7 +130,7 @@ settling-pc y m g k = go (decLe k (length (pending y m)))
         let f : take k (pending y m) ≡ pending y m = take-all k (pending y m) (omega arith) in
         let hd = g .header in
         let o : pcWord y (after m (settling y m)) ≡ pcWord y (after m (pending y m)) =
-            finished-other (y .work .at) m (pending y m) (y .epc .at + 1) (omega arith) in
+        finished-other (y .work .at) m (pending y m) (y .epc .at + 1) (omega arith) in
         rw (e, o) (rw f at (g .content k .pc))
 
 pub pending-under : (y : Layout) (m : List ℕ) → Good y m → (j : ℕ) → j < countIn y m → pairAt y m j .at < y .work .at

@@ -1,2 +1,4 @@
 pub mod Stores
+pub mod Cuts
+pub mod Worked
 pub mod Steps

@@ -1,3 +1,4 @@
+-- `stores::stage_words` meets its contract. Invariant: the pairs of the words passed are staged. Assumes nothing.
 use denote.Ref.{now}
 use Rattle.stores.specs.Steps.{chosen, StagedTo}
 use mathlib.Core.Path.{_≡_, refl}
@@ -7,9 +8,6 @@ use native.Mathlib.Omega.{arith}
 use Rattle.stores.proofs.Runs.{ran-none, ran-length, chose-more, chosen-few}
 use Rattle.stores.proofs.stage_words.Statement.{statement}
 use Rattle.stores.proofs.stage_words.Tie as tie
-use Rattle.stores.proofs.stage_words.Reads as reads
-use Rattle.stores.proofs.stage_words.Lts as lts
-use Rattle.stores.proofs.stage_word.Reads as stage-word-reads
 
 abbrev Inv-loop : tie.InvT-loop
 Inv-loop area₀ left at n words from skip rest₀ k₀ j₀ area rest k j = (j ≤ n) × (k ≤ j) × StagedTo 0 (chosen at words from skip j) left area₀ area (record { left = rest; pairs = k })
@@ -17,34 +15,18 @@ Inv-loop area₀ left at n words from skip rest₀ k₀ j₀ area rest k j = (j 
 abbrev μ-loop : tie.MeasureT-loop
 μ-loop area₀ left at n words from skip rest₀ k₀ j₀ area rest k j = n - j
 
--- src/lib.rt:83:5
 loop-holds : tie.Need-loop-holds Inv-loop μ-loop
 loop-holds c = (omega arith, omega arith, record { ran = ran-none _ _; pairs = refl })
 
--- src/lib.rt:84:13
-stage-word-requires : tie.Need-stage-word-requires Inv-loop μ-loop
-stage-word-requires c κs = search needs
-
--- src/lib.rt:87:9
-add-j : tie.Need-add-j Inv-loop μ-loop
-add-j c = search needs
-
--- src/lib.rt:83:5
-loop-less : tie.Need-loop-less Inv-loop μ-loop
-loop-less c = search needs
-
--- src/lib.rt:83:5
 loop-again : tie.Need-loop-again Inv-loop μ-loop
 loop-again c = let a = c .before .before .before .before .before .before .before .before .before .args in
     let l = c .before .before .before .before .before .loop in
     let s = c .before .before .stage-word .ensures in
     (omega arith, omega (arith, s .pairs, chosen-few (a .at) (now (a .words)) (a .from) (now (a .skip)) (l .j)), chose-more (a .at) (now (a .words)) (a .from) (now (a .skip)) (l .j) (l .inv .2) s)
 
--- src/lib.rt:68:1
 same-length : tie.Need-same-length Inv-loop μ-loop
 same-length c = ran-length (c .before .loop .inv .2 .ran)
 
--- src/lib.rt:68:1
 returns : tie.Need-returns Inv-loop μ-loop
 returns c = let l = c .before .loop in
     let e : l .j ≡ c .before .before .before .before .before .args .n = omega arith in
@@ -53,13 +35,4 @@ returns c = let l = c .before .loop in
 pub stage-words-spec : {M : Type 1} → statement M
 stage-words-spec =
     tie.close
-    (tie.spec
-    Inv-loop
-    μ-loop
-    loop-holds
-    stage-word-requires
-    add-j
-    loop-less
-    loop-again
-    same-length
-    returns)
+    (tie.spec Inv-loop μ-loop loop-holds (search needs) (search needs) (search needs) loop-again same-length returns)

@@ -1,0 +1,38 @@
+-- Power-up's answers, in order (RULES 2.6, 2.7 and 5): 1, 2, 3, 11. Assumes nothing.
+use Prim.Native.Nat.{ℕ}
+use mathlib.Core.Bool.{Bool, cond}
+use mathlib.Core.List.{List, [], _∷_}
+use lib.Dec.{eqb, ltb}
+use lib.ListN.{length, take}
+use Rattle.bits.specs.Words.{after}
+use Rattle.bits.specs.First.{first}
+use Rattle.image.specs.declared.Layout.{Layout}
+use Rattle.image.specs.Layout.{layoutOf}
+use Rattle.image.specs.Content.{killedWord}
+use Rattle.image.specs.Check.{short, headerWrong, contentBroken}
+use Rattle.stores.specs.Stores.{powerStores, powerUp}
+use Rattle.tag.specs.declared.State.{State}
+use Rattle.tag.specs.declared.State.the-variants as state
+use Rattle.tag.specs.declared.Session.{Session}
+use Rattle.tag.specs.Session.{offSession, newSession}
+use Rattle.tag.specs.Result.{Result}
+
+-- a power-up's answer, session, stores made and image
+abbrev pub poweredTo : ℕ → Session → ℕ → List ℕ → Result
+poweredTo number session stores image =
+    record { number = number; session = session; reply = 0; stores = stores; value = 0; image = image; room = [] }
+
+-- 2.7: Killed if the image says so, else Arbitrate
+abbrev pub firstState : List ℕ → State
+firstState m = cond (eqb (killedWord (layoutOf m) m) 0) state.Arbitrate state.Killed
+
+unfoldable pub powerUpOf : List ℕ → ℕ → Result
+powerUpOf m s =
+    let stores = powerStores (layoutOf m) m in
+    first
+    ((poweredTo 1 offSession 0 m, short m)
+    ∷ (poweredTo 2 offSession 0 m, headerWrong m)
+    ∷ (poweredTo 3 offSession 0 m, contentBroken m)
+    ∷ (poweredTo 11 offSession s (after m (take s stores)), ltb s (length stores))
+    ∷ [])
+    (poweredTo 0 (newSession (firstState (powerUp m))) (length stores) (powerUp m))

@@ -1,0 +1,33 @@
+-- Sessions and the numbers of the answer table (RULES 3.1, 3.3 and 5). Assumes nothing.
+use Prim.Native.Nat.{ℕ}
+use mathlib.Core.Bool.{false}
+use Rattle.tag.specs.declared.State.{State}
+use Rattle.tag.specs.declared.Power.the-variants as power
+use Rattle.tag.specs.declared.Session.{Session}
+use Rattle.tag.specs.declared.Answer.{Answer}
+use Rattle.tag.specs.declared.Answer.the-variants as answer
+
+abbrev pub offSession : Session
+offSession = record { power = power.Off }
+
+-- 2.7: port free, register 0
+abbrev pub newSession : State → Session
+newSession state =
+    record { power = power.On (record { state = state; held = false; register = record { unwritten = false; killed = false } }) }
+
+-- the number of each answer
+abbrev pub numberOf : Answer → ℕ
+numberOf answer.Done = 0
+numberOf answer.Short = 1
+numberOf answer.Header = 2
+numberOf answer.Content = 3
+numberOf answer.NoRoom = 4
+numberOf answer.NotReady = 5
+numberOf answer.Port = 6
+numberOf answer.Malformed = 7
+numberOf answer.Checksum = 8
+numberOf answer.Wrong = 9
+numberOf answer.Error = 10
+numberOf answer.PowerLost = 11
+numberOf answer.Password = 12
+numberOf answer.Count = 13

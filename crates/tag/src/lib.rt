@@ -1,0 +1,82 @@
+// The tag: a session, and every operation on it and an image. Each has its answer for any input (RULES 5).
+mod power;
+
+pub use power::power_up;
+
+// A cover number, if there is one.
+pub enum Cover {
+    Nothing,
+    Number(u16),
+}
+
+// The upper half of a password that waits for the lower, uncovered.
+pub enum Half {
+    Nothing,
+    Access(u16),
+    Kill(u16),
+}
+
+// What Open and Secured hold.
+pub struct Link {
+    pub handle: u16,
+    pub cover: Cover,
+    pub half: Half,
+}
+
+// The states under power. Acknowledged holds the admission number.
+pub enum State {
+    Arbitrate,
+    Acknowledged(u16),
+    Open(Link),
+    Secured(Link),
+    Killed,
+}
+
+// The port's error register: bit 1, some word wasn't written; bit 0, killed.
+pub struct Register {
+    pub unwritten: bool,
+    pub killed: bool,
+}
+
+// A session under power.
+pub struct Live {
+    pub state: State,
+    pub held: bool,
+    pub register: Register,
+}
+
+pub enum Power {
+    Off,
+    On(Live),
+}
+
+pub struct Session {
+    pub power: Power,
+}
+
+// The answers of the table.
+pub enum Answer {
+    Done,
+    Short,
+    Header,
+    Content,
+    NoRoom,
+    NotReady,
+    Port,
+    Malformed,
+    Checksum,
+    Wrong,
+    Error,
+    PowerLost,
+    Password,
+    Count,
+}
+
+// What an operation hands back: its answer, the new session, the reply's length in bits, the stores made, and the register where it was read.
+pub struct Outcome {
+    pub answer: Answer,
+    pub session: Session,
+    pub reply: usize,
+    pub stores: usize,
+    pub value: u8,
+}
