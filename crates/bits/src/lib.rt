@@ -68,7 +68,7 @@ fn window(bytes: &[u8], k: usize) -> u32
 
 // The number that the n bits from bit `at` on denote. They lie in a window of three bytes.
 pub fn field(bytes: &[u8], at: usize, n: usize) -> u16
-    requires { ⌜ (n ≤ 16) × (at < 2 ^ 62) ⌝ }
+    requires { ⌜ n ≤ 16 ⌝ }
     ensures { λ r. ⌜ (r ≡ fieldAt (now (bytes .entry)) at n) × (r < 2 ^ n) ⌝ }
 {
     ((window(bytes, at / 8) >> (24 - at % 8 - n)) % (1 << n)) as u16

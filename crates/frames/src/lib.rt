@@ -1,8 +1,10 @@
 // Frames in: from a frame's bits to what it asks for (RULES 3.5 to 3.8).
 ghost use mathlib.Core.Path.{_≡_};
-ghost use Prim.Native.Nat.{_*_, _≤_};
+ghost use Prim.Native.Nat.{_+_, _*_, _≤_, _<_};
 ghost use lib.ListN.{length};
-ghost use Rattle.frames.specs.Frames.{heardOf, checksumRight};
+ghost use Rattle.bits.specs.Bits.{fieldAt};
+ghost use Rattle.frames.specs.Frames.{heardOf, checksumRight, exactly, span as spanOf, nakOf, reqRnOf, readOf, writeOf, killOf, lockOf, accessOf, blockWriteOf, blockEraseOf, permalockOf};
+use ebv::Pointer;
 
 // Words of a bank: the bank's number, the first word and how many. For BlockPermalock the words are PERMA's.
 pub struct Span {
@@ -36,4 +38,192 @@ pub enum Heard {
     Malformed,
     Nak,
     Said(Command),
+}
+
+// The order in a frame of exactly k bits, with the number before the CRC-16.
+fn exact(frame: &[u8], n: usize, k: usize, order: Order) -> Heard
+    requires { ⌜ 32 ≤ k ⌝ }
+    ensures { λ r. ⌜ r ≡ exactly (now (frame .entry)) n k order ⌝ }
+{
+    if n == k {
+        let number = bits::field(frame, n - 32, 16);
+        Heard::Said(Command { number, order })
+    } else {
+        Heard::Malformed
+    }
+}
+
+// The bits of a pointer of so many bytes.
+fn width(bytes: usize) -> usize
+    requires { ⌜ bytes ≤ 3 ⌝ }
+    ensures { λ r. ⌜ (r ≡ 8 * bytes) × (r ≤ 24) ⌝ }
+{
+    8 * bytes
+}
+
+// Words as a command names them: the bank at bit `at`, a pointer of w bits, the count.
+fn named(frame: &[u8], at: usize, pointer: u32, w: usize) -> Span
+    requires { ⌜ (at < 64) × (w ≤ 24) ⌝ }
+    ensures { λ r. ⌜ (r ≡ spanOf (fieldAt (now (frame .entry)) at 2) pointer (fieldAt (now (frame .entry)) (at + 2 + w) 8)) × (r .count < 256) ⌝ }
+{
+    let bank = bits::field(frame, at, 2);
+    let count = bits::field(frame, at + 2 + w, 8);
+    Span {
+        bank,
+        pointer,
+        count,
+    }
+}
+
+fn nak(n: usize) -> Heard
+    ensures { λ r. ⌜ r ≡ nakOf n ⌝ }
+{
+    if n == 8 { Heard::Nak } else { Heard::Malformed }
+}
+
+fn req_rn(frame: &[u8], n: usize) -> Heard
+    ensures { λ r. ⌜ r ≡ reqRnOf (now (frame .entry)) n ⌝ }
+{
+    exact(frame, n, 40, Order::ReqRn)
+}
+
+fn read(frame: &[u8], n: usize) -> Heard
+    ensures { λ r. ⌜ r ≡ readOf (now (frame .entry)) n ⌝ }
+{
+    let Pointer::Whole { value, bytes } = ebv::read(frame, n, 10) else {
+        return Heard::Malformed;
+    };
+    let w = width(bytes);
+    let words = named(frame, 8, value, w);
+    exact(frame, n, 50 + w, Order::Read(words))
+}
+
+fn write(frame: &[u8], n: usize) -> Heard
+    ensures { λ r. ⌜ r ≡ writeOf (now (frame .entry)) n ⌝ }
+{
+    let Pointer::Whole { value, bytes } = ebv::read(frame, n, 10) else {
+        return Heard::Malformed;
+    };
+    let w = width(bytes);
+    let bank = bits::field(frame, 8, 2);
+    let data = bits::field(frame, 10 + w, 16);
+    let words = Span {
+        bank,
+        pointer: value,
+        count: 1,
+    };
+    exact(frame, n, 58 + w, Order::Write(words, data))
+}
+
+fn kill(frame: &[u8], n: usize) -> Heard
+    ensures { λ r. ⌜ r ≡ killOf (now (frame .entry)) n ⌝ }
+{
+    exact(frame, n, 59, Order::Kill(bits::field(frame, 8, 16)))
+}
+
+fn lock(frame: &[u8], n: usize) -> Heard
+    ensures { λ r. ⌜ r ≡ lockOf (now (frame .entry)) n ⌝ }
+{
+    let mask = bits::field(frame, 8, 10);
+    let action = bits::field(frame, 18, 10);
+    exact(frame, n, 60, Order::Lock(mask, action))
+}
+
+fn access(frame: &[u8], n: usize) -> Heard
+    ensures { λ r. ⌜ r ≡ accessOf (now (frame .entry)) n ⌝ }
+{
+    exact(frame, n, 56, Order::Access(bits::field(frame, 8, 16)))
+}
+
+fn block_write(frame: &[u8], n: usize) -> Heard
+    ensures { λ r. ⌜ r ≡ blockWriteOf (now (frame .entry)) n ⌝ }
+{
+    let Pointer::Whole { value, bytes } = ebv::read(frame, n, 10) else {
+        return Heard::Malformed;
+    };
+    let w = width(bytes);
+    let words = named(frame, 8, value, w);
+    exact(
+        frame,
+        n,
+        50 + w + 16 * words.count as usize,
+        Order::BlockWrite(words, 18 + w),
+    )
+}
+
+fn block_erase(frame: &[u8], n: usize) -> Heard
+    ensures { λ r. ⌜ r ≡ blockEraseOf (now (frame .entry)) n ⌝ }
+{
+    let Pointer::Whole { value, bytes } = ebv::read(frame, n, 10) else {
+        return Heard::Malformed;
+    };
+    let w = width(bytes);
+    let words = named(frame, 8, value, w);
+    exact(frame, n, 50 + w, Order::BlockErase(words))
+}
+
+fn permalock(frame: &[u8], n: usize) -> Heard
+    ensures { λ r. ⌜ r ≡ permalockOf (now (frame .entry)) n ⌝ }
+{
+    let Pointer::Whole { value, bytes } = ebv::read(frame, n, 19) else {
+        return Heard::Malformed;
+    };
+    let w = width(bytes);
+    let rfu = bits::field(frame, 8, 8);
+    let words = named(frame, 17, value, w);
+    if bits::field(frame, 16, 1) == 0 {
+        return exact(frame, n, 59 + w, Order::ReadPermalock(rfu, words));
+    }
+    exact(
+        frame,
+        n,
+        59 + w + 16 * words.count as usize,
+        Order::Permalock(rfu, words, 27 + w),
+    )
+}
+
+// What a frame of this code says.
+fn by_code(frame: &[u8], n: usize, code: u16) -> Heard
+    requires { ⌜ (8 ≤ n) × (n ≤ 8 * length (now frame)) × (code ≡ fieldAt (now frame) 0 8) ⌝ }
+    ensures { λ r. ⌜ r ≡ heardOf (now (frame .entry)) n ⌝ }
+{
+    match code {
+        0xC0 => nak(n),
+        0xC1 => req_rn(frame, n),
+        0xC2 => read(frame, n),
+        0xC3 => write(frame, n),
+        0xC4 => kill(frame, n),
+        0xC5 => lock(frame, n),
+        0xC6 => access(frame, n),
+        0xC7 => block_write(frame, n),
+        0xC8 => block_erase(frame, n),
+        0xC9 => permalock(frame, n),
+        _ => Heard::Malformed,
+    }
+}
+
+// What a frame of n bits says, for any bytes and any n.
+pub fn hear(frame: &[u8], n: usize) -> Heard
+    ensures { λ r. ⌜ r ≡ heardOf (now (frame .entry)) n ⌝ }
+{
+    let bytes = n / 8 + (n % 8 + 7) / 8;
+    if frame.len() < bytes {
+        return Heard::Malformed;
+    }
+    if n < 8 {
+        return Heard::Malformed;
+    }
+    let code = bits::field(frame, 0, 8);
+    match code {
+        0xC0..=0xC9 => by_code(frame, n, code),
+        _ => Heard::Malformed,
+    }
+}
+
+// Whether the CRC-16 at a frame's end is that of the bits before it.
+pub fn checksum_right(frame: &[u8], n: usize) -> bool
+    requires { ⌜ (16 ≤ n) × (n ≤ 8 * length (now frame)) ⌝ }
+    ensures { λ r. ⌜ r ≡ checksumRight (now (frame .entry)) n ⌝ }
+{
+    bits::field(frame, n - 16, 16) == crc::crc16(frame, n - 16)
 }

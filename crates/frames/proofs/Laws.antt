@@ -1,0 +1,94 @@
+-- What a caller learns from a frame that says a command. Assumes nothing.
+use Prim.Native.Nat.{ℕ, _+_, _-_, _*_, _≤_}
+use mathlib.Core.Path.{_≡_, refl, sym, _∙_}
+use mathlib.Core.Bool.{Bool, true, false, cond, _||_}
+use mathlib.Core.List.{List}
+use native.Mathlib.Omega.{arith}
+use native.Mathlib.Decide.{decLe}
+use lib.Dec.{eqb, ltb}
+use lib.ListN.{length}
+use borrow.Author.Tests.{eqb-true}
+use Rattle.bits.specs.Bits.{fieldAt}
+use Rattle.ebv.specs.declared.Pointer.{Pointer}
+use Rattle.ebv.specs.declared.Pointer.the-variants as pointer
+use Rattle.ebv.specs.Ebv.{pointerAt}
+use Rattle.frames.specs.declared.Span.{Span}
+use Rattle.frames.specs.declared.Order.{Order}
+use Rattle.frames.specs.declared.Order.the-variants as order
+use Rattle.frames.specs.declared.Command.{Command}
+use Rattle.frames.specs.declared.Heard.{Heard}
+use Rattle.frames.specs.declared.Heard.the-variants as heard
+use Rattle.frames.specs.Frames.{exactly, pointed, heardOf}
+use Rattle.frames.proofs.Codes.{beyond}
+
+-- the words that a frame of n bits brings are followed by the number and the CRC-16
+abbrev Brings : ℕ → Order → Type 0
+Brings n order.ReqRn = Unit {0}
+Brings n (order.Read s) = Unit {0}
+Brings n (order.Write s w) = Unit {0}
+Brings n (order.Kill h) = Unit {0}
+Brings n (order.Lock m a) = Unit {0}
+Brings n (order.Access h) = Unit {0}
+Brings n (order.BlockWrite s p) = p + 16 * s .count + 32 ≡ n
+Brings n (order.BlockErase s) = Unit {0}
+Brings n (order.ReadPermalock r s) = Unit {0}
+Brings n (order.Permalock r s p) = p + 16 * s .count + 32 ≡ n
+
+abbrev Sized : ℕ → Heard → Type 0
+Sized n heard.Malformed = Unit {0}
+Sized n heard.Nak = Unit {0}
+Sized n (heard.Said c) = (40 ≤ n) × Brings n (c .order)
+
+exact-sized : (m : List ℕ) (n k : ℕ) (o : Order) → 40 ≤ k → Brings k o → Sized n (exactly m n k o)
+exact-sized m n k o l b = go (eqb n k) refl
+  where
+    go : (t : Bool) → eqb n k ≡ t → Sized n (cond t (heard.Said (record { number = fieldAt m (n - 32) 16; order = o })) heard.Malformed)
+    go true e = rw (eqb-true n k e) (l, b)
+    go false e = tt
+
+pointed-sized : (n : ℕ) (p : Pointer) (f : ℕ → ℕ → Heard) → ((v e : ℕ) → Sized n (f v e)) → Sized n (pointed p f)
+pointed-sized n pointer.Malformed f h = tt
+pointed-sized n (pointer.Whole v e) f h = h v e
+
+cond-sized : (n : ℕ) (t : Bool) (a b : Heard) → Sized n a → Sized n b → Sized n (cond t a b)
+cond-sized n true a b p q = p
+cond-sized n false a b p q = q
+
+heard-sized : (m : List ℕ) (n : ℕ) → Sized n (heardOf m n)
+unfolding heardOf
+heard-sized m n =
+    let code = fieldAt m 0 8 in
+    cond-sized n (ltb (8 * length m) n || ltb n 8) _ _ tt
+    (cond-sized n (eqb code 0xC0) _ _ (cond-sized n (eqb n 8) heard.Nak heard.Malformed tt tt)
+    (cond-sized n (eqb code 0xC1) _ _ (exact-sized m n _ _ (omega arith) tt)
+    (cond-sized n (eqb code 0xC2) _ _ (pointed-sized n (pointerAt m n 10) _ (λ v e. exact-sized m n _ _ (omega arith) tt))
+    (cond-sized n (eqb code 0xC3) _ _ (pointed-sized n (pointerAt m n 10) _ (λ v e. exact-sized m n _ _ (omega arith) tt))
+    (cond-sized n (eqb code 0xC4) _ _ (exact-sized m n _ _ (omega arith) tt)
+    (cond-sized n (eqb code 0xC5) _ _ (exact-sized m n _ _ (omega arith) tt)
+    (cond-sized n (eqb code 0xC6) _ _ (exact-sized m n _ _ (omega arith) tt)
+    (cond-sized n (eqb code 0xC7) _ _ (pointed-sized n (pointerAt m n 10) _ (λ v e. exact-sized m n _ _ (omega arith) (omega arith)))
+    (cond-sized n (eqb code 0xC8) _ _ (pointed-sized n (pointerAt m n 10) _ (λ v e. exact-sized m n _ _ (omega arith) tt))
+    (cond-sized n (eqb code 0xC9) _ _ (pointed-sized n (pointerAt m n 19) _ (λ v e. cond-sized n (eqb (fieldAt m 16 1) 0) _ _ (exact-sized m n _ _ (omega arith) tt) (exact-sized m n _ _ (omega arith) (omega arith)))) tt))))))))))
+
+never : {c : Command} → heard.Malformed ≡ heard.Said c → ⊥
+never e = let z : _≡_ {A = ℕ} 0 1 = cc in omega arith
+
+module _ (m : List ℕ) (n : ℕ) (c : Command) (said : heardOf m n ≡ heard.Said c) where
+  held : n ≤ 8 * length m
+  held = go (decLe n (8 * length m))
+    where
+      go : Dec (n ≤ 8 * length m) → n ≤ 8 * length m
+      go (yes h) = h
+      go (no h) = absurd (never (sym (beyond m n (omega arith)) ∙ said))
+
+  sized : Sized n (heard.Said c)
+  sized = rw said at (heard-sized m n)
+
+  pub said-bounds : (40 ≤ n) × (n ≤ 8 * length m)
+  said-bounds = (sized .0, held)
+
+  pub said-block-write : (s : Span) (p : ℕ) → c .order ≡ order.BlockWrite s p → p + 16 * s .count + 32 ≡ n
+  said-block-write s p e = rw e at (sized .1)
+
+  pub said-permalock : (r : ℕ) (s : Span) (p : ℕ) → c .order ≡ order.Permalock r s p → p + 16 * s .count + 32 ≡ n
+  said-permalock r s p e = rw e at (sized .1)

@@ -1,0 +1,3 @@
+pub mod Pointers
+pub mod Codes
+pub mod Laws
