@@ -17,4 +17,4 @@ returns-2 c = let a = c .before .before .before .before .before .before .before 
 
 pub settle-spec : {M : Type 1} → statement M
 settle-spec = tie.close
-    (tie.spec returns (search needs) (search needs) (search needs) returns-2)
+    (tie.spec returns (λ c κs. search needs) (λ c κs. search needs) (λ c. search needs) returns-2)
