@@ -1,3 +1,4 @@
 pub mod Session
 pub mod Result
 pub mod Power
+pub mod Steps

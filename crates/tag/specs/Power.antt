@@ -10,7 +10,7 @@ use Rattle.image.specs.declared.Layout.{Layout}
 use Rattle.image.specs.Layout.{layoutOf}
 use Rattle.image.specs.Content.{killedWord}
 use Rattle.image.specs.Check.{short, headerWrong, contentBroken}
-use Rattle.stores.specs.Stores.{powerStores, powerUp}
+use Rattle.stores.specs.Stores.{powerStores}
 use Rattle.tag.specs.declared.State.{State}
 use Rattle.tag.specs.declared.State.the-variants as state
 use Rattle.tag.specs.declared.Session.{Session}
@@ -23,16 +23,21 @@ poweredTo number session stores image =
     record { number = number; session = session; reply = 0; stores = stores; value = 0; image = image; room = [] }
 
 -- 2.7: Killed if the image says so, else Arbitrate
-abbrev pub firstState : List ℕ → State
-firstState m = cond (eqb (killedWord (layoutOf m) m) 0) state.Arbitrate state.Killed
+abbrev pub firstIn : Layout → List ℕ → State
+firstIn y m = cond (eqb (killedWord y m) 0) state.Arbitrate state.Killed
+
+-- a good image of the layout y: the first s stores where it needs more, else all of them
+unfoldable pub started : Layout → List ℕ → ℕ → Result
+started y m s =
+    let stores = powerStores y m in
+    cond (ltb s (length stores)) (poweredTo 11 offSession s (after m (take s stores)))
+    (poweredTo 0 (newSession (firstIn y (after m stores))) (length stores) (after m stores))
 
 unfoldable pub powerUpOf : List ℕ → ℕ → Result
 powerUpOf m s =
-    let stores = powerStores (layoutOf m) m in
     first
     ((poweredTo 1 offSession 0 m, short m)
     ∷ (poweredTo 2 offSession 0 m, headerWrong m)
     ∷ (poweredTo 3 offSession 0 m, contentBroken m)
-    ∷ (poweredTo 11 offSession s (after m (take s stores)), ltb s (length stores))
     ∷ [])
-    (poweredTo 0 (newSession (firstState (powerUp m))) (length stores) (powerUp m))
+    (started (layoutOf m) m s)

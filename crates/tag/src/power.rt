@@ -5,7 +5,8 @@ ghost use lib.ListN.{length};
 ghost use Rattle.image.specs.Rules.{Good};
 ghost use Rattle.stores.specs.Stores.{powerStores};
 ghost use Rattle.tag.specs.Session.{offSession, newSession};
-ghost use Rattle.tag.specs.Power.{refusal, started, powerUpOf};
+ghost use Rattle.tag.specs.Power.{firstIn, started, powerUpOf};
+ghost use Rattle.tag.specs.Steps.{stoppedAt};
 ghost use Rattle.tag.specs.Result.{result};
 use crate::Answer;
 use crate::Live;
@@ -36,5 +37,70 @@ fn fresh(state: State) -> Session
                 killed: false,
             },
         }),
+    }
+}
+
+// A refused power-up: nothing is changed, and the session is Off.
+fn stopped(answer: Answer, stores: usize) -> Outcome
+    ensures { λ r. ⌜ r ≡ stoppedAt answer stores ⌝ }
+{
+    Outcome {
+        answer: answer,
+        session: off(),
+        reply: 0,
+        stores: stores,
+        value: 0,
+    }
+}
+
+// The stores that a power-up needs.
+fn needed(image: &[u8], y: Layout) -> usize
+    ensures { λ r. ⌜ r ≡ length (powerStores y (now (image .entry))) ⌝ }
+{
+    let c = bits::word(image, y.work.at as usize) as usize;
+    if c == 0 {
+        return 1;
+    }
+    c + 2
+}
+
+// The first session of an image.
+fn first_session(image: &[u8], y: Layout) -> Session
+    ensures { λ r. ⌜ r ≡ newSession (firstIn y (now (image .entry))) ⌝ }
+{
+    if bits::word(image, y.status.at as usize + 1) == 0 {
+        return fresh(State::Arbitrate);
+    }
+    fresh(State::Killed)
+}
+
+// Power-up of a good image.
+fn start(image: &mut [u8], y: Layout, s: usize) -> Outcome
+    requires { ⌜ Good y (now image) ⌝ }
+    ensures { λ r. ⌜ result r (now (image .exit)) [] ≡ started y (now (image .entry)) s ⌝ }
+{
+    let n = needed(image, y);
+    let made = stores::power(image, y, s);
+    if s < n {
+        return stopped(Answer::PowerLost, made);
+    }
+    Outcome {
+        answer: Answer::Done,
+        session: first_session(image, y),
+        reply: 0,
+        stores: made,
+        value: 0,
+    }
+}
+
+// Power-up, for any bytes and any power.
+pub fn power_up(image: &mut [u8], s: usize) -> Outcome
+    ensures { λ r. ⌜ result r (now (image .exit)) [] ≡ powerUpOf (now (image .entry)) s ⌝ }
+{
+    match image::check(image) {
+        Fit::Short => stopped(Answer::Short, 0),
+        Fit::Header => stopped(Answer::Header, 0),
+        Fit::Content => stopped(Answer::Content, 0),
+        Fit::Good(y) => start(image, y, s),
     }
 }
