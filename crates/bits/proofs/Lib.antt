@@ -1,5 +1,6 @@
 pub mod Words
 pub mod Bits
+pub mod Digits
 pub mod Below
 pub mod Stores
 pub mod Windows

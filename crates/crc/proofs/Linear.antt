@@ -4,6 +4,7 @@ use mathlib.Core.Path.{_≡_, refl, sym, ap, ap₂, _∙_}
 use mathlib.Core.List.{List, [], _∷_}
 use native.Mathlib.Omega.{arith}
 use lib.Bits.{bitXor, xor-shr, xor-mod, xor-lt}
+use Rattle.bits.proofs.Digits.{Bits}
 use Rattle.crc.specs.Crc.{run, shift}
 use Rattle.crc.proofs.Xor.{xor-medial, xor-shl}
 
@@ -28,11 +29,6 @@ shift-linear r s b c hr hs hb hc =
 pub shift-lt : (r b : ℕ) → r < 65536 → b < 2 → shift r b < 65536
 shift-lt r b hr hb =
     xor-lt 16 (r * 2 % 65536) (bitXor (r / 32768) b * 0x1021) (omega arith) (omega (arith, xor-lt 1 (r / 32768) b (omega arith) hb))
-
--- bits
-abbrev pub Bits : List ℕ → Type 0
-Bits [] = Unit {0}
-Bits (b ∷ bs) = (b < 2) × Bits bs
 
 abbrev pub zip : List ℕ → List ℕ → List ℕ
 zip [] cs = []

@@ -13,9 +13,10 @@ use lib.Bits.{bitXor, xor-shr, xor-mod, xor-self, xor-shifted}
 use Rattle.bits.specs.Bits.{bitsOf}
 use Rattle.crc.specs.Crc.{run}
 use Rattle.crc.proofs.Xor.{xor-medial, xor-shl}
-use Rattle.crc.proofs.Linear.{Bits, Same, zip, run-linear}
+use Rattle.crc.proofs.Linear.{Same, zip, run-linear}
 use Rattle.bits.proofs.Below.{every-at}
 use Rattle.bits.proofs.Bits.{low-bits}
+use Rattle.bits.proofs.Digits.{bits-of}
 
 -- functions that take `^` to `^`, and how they are made
 pub record Linear (f : ℕ → ℕ) : Type 0 where
@@ -64,11 +65,6 @@ agree (suc n) {f} {g} l m t x h =
 unfoldable pub shifts : ℕ → ℕ → ℕ
 shifts n u = run (u / 2 ^ n % 65536) (bitsOf n u)
 
-word-bits : (n v : ℕ) → Bits (bitsOf n v)
-unfolding bitsOf
-word-bits zero v = tt
-word-bits (suc n) v = (mod-lt (v / 2 ^ n) (omega arith), word-bits n v)
-
 same-bits : (n x y : ℕ) → Same (bitsOf n x) (bitsOf n y)
 unfolding bitsOf
 same-bits zero x y = tt
@@ -85,7 +81,7 @@ shifts-linear n =
     record {
       sums = λ a b.
           ap₂ run (then (right n) (cut 16) .sums a b) (sym (zip-bits n a b))
-          ∙ run-linear (bitsOf n a) (bitsOf n b) (a / 2 ^ n % 65536) (b / 2 ^ n % 65536) (omega arith) (omega arith) (word-bits n a) (word-bits n b) (same-bits n a b);
+          ∙ run-linear (bitsOf n a) (bitsOf n b) (a / 2 ^ n % 65536) (b / 2 ^ n % 65536) (omega arith) (omega arith) (bits-of n a) (bits-of n b) (same-bits n a b);
     }
 
 -- the test at the single bits

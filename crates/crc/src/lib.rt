@@ -28,6 +28,34 @@ pub fn step8(r: u16, b: u8) -> u16
     r << 8 ^ t << 12 ^ t << 5 ^ t
 }
 
+// Sixteen, by the bits of w: q is the quotient.
+pub fn step16(r: u16, w: u16) -> u16
+    ensures { λ s. ⌜ s ≡ run r (bitsOf 16 w) ⌝ }
+{
+    let x = r ^ w;
+    let t = x ^ x >> 4;
+    let q = t ^ t >> 8 ^ x >> 11;
+    q << 12 ^ q << 5 ^ q
+}
+
+fn wider(x: u16) -> u64
+    ensures { λ r. ⌜ (r ≡ x) × (r < 65536) ⌝ }
+{
+    x as u64
+}
+
+// Sixty-four, by the bits of w: the quotient q is made by four sparse factors.
+pub fn step64(r: u16, w: u64) -> u16
+    ensures { λ s. ⌜ s ≡ run r (bitsOf 64 w) ⌝ }
+{
+    let x = wider(r) << 48 ^ w;
+    let a = x ^ x >> 32;
+    let b = a ^ a >> 16 ^ a >> 44;
+    let c = b ^ b >> 8 ^ b >> 22 ^ b >> 32;
+    let q = c ^ c >> 4 ^ c >> 11 ^ c >> 16;
+    ((q << 12 ^ q << 5 ^ q) % 65536) as u16
+}
+
 // The CRC-16 of the first n bits.
 pub fn crc16(bytes: &[u8], n: usize) -> u16
     requires { ⌜ n ≤ 8 * length (now bytes) ⌝ }

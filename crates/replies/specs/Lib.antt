@@ -1,2 +1,4 @@
 pub mod Pack
 pub mod Replies
+pub mod Steps
+pub mod Cases

@@ -1,9 +1,13 @@
 // Replies out: bits into a lent room, the first bit highest (RULES 3.9 to 3.11).
 ghost use mathlib.Core.Path.{_≡_};
-ghost use Prim.Native.Nat.{_+_, _*_, _≤_};
-ghost use lib.ListN.{length};
-ghost use Rattle.replies.specs.Replies.{replyBits, replyLength, replyBytes};
+ghost use mathlib.Core.List.{[]};
+ghost use Prim.Native.Nat.{_+_, _-_, _*_, _%_, _^_, _≤_, _<_};
+ghost use lib.ListN.{length, replicate};
+ghost use Rattle.bits.specs.Bits.{bitsOf};
+ghost use Rattle.crc.specs.Crc.{run};
+ghost use Rattle.replies.specs.Replies.{replyBits, replyLength, replyBytes, replyEnd, wordsBits};
 ghost use Rattle.replies.specs.Pack.{packed};
+ghost use Rattle.replies.specs.Steps.{withBytes, late, ended, twoWords, fourWords};
 
 // A reply. Words are the image's: the first, and how many.
 pub enum Reply {
@@ -12,4 +16,192 @@ pub enum Reply {
     Success(u16),
     Words(u16, u16, u16),
     Error(u8, u16),
+}
+
+// How many bits a reply has.
+pub fn bit_count(reply: Reply) -> usize
+    ensures { λ n. ⌜ n ≡ replyLength reply ⌝ }
+{
+    match reply {
+        Reply::Silence => 0,
+        Reply::Number(_) => 32,
+        Reply::Success(_) => 33,
+        Reply::Words(_, count, _) => 16 * (count as usize) + 33,
+        Reply::Error(_, _) => 41,
+    }
+}
+
+fn from_byte(b: u8) -> u64
+    ensures { λ r. ⌜ (r ≡ b) × (r < 256) ⌝ }
+{
+    b as u64
+}
+
+fn from_word(w: u16) -> u64
+    ensures { λ r. ⌜ (r ≡ w) × (r < 65536) ⌝ }
+{
+    w as u64
+}
+
+fn low_byte(v: u64) -> u8
+    ensures { λ r. ⌜ r ≡ v % 256 ⌝ }
+{
+    (v % 256) as u8
+}
+
+// Stores the two low bytes of v from byte i on.
+fn store_two(room: &mut [u8], i: usize, v: u64)
+    requires { ⌜ i + 1 < length (now room) ⌝ }
+    ensures { λ _. ⌜ now (room .exit) ≡ withBytes 2 (now (room .entry)) i v ⌝ }
+{
+    room[i] = low_byte(v / 0x100);
+    room[i + 1] = low_byte(v);
+}
+
+// Four.
+fn store_four(room: &mut [u8], i: usize, v: u64)
+    requires { ⌜ i + 3 < length (now room) ⌝ }
+    ensures { λ _. ⌜ now (room .exit) ≡ withBytes 4 (now (room .entry)) i v ⌝ }
+{
+    store_two(room, i, v / 0x10000);
+    store_two(room, i + 2, v);
+}
+
+// Eight.
+fn store_eight(room: &mut [u8], i: usize, v: u64)
+    requires { ⌜ i + 7 < length (now room) ⌝ }
+    ensures { λ _. ⌜ now (room .exit) ≡ withBytes 8 (now (room .entry)) i v ⌝ }
+{
+    store_four(room, i, v / 0x1_0000_0000);
+    store_four(room, i + 4, v);
+}
+
+// The handle and the CRC-16 from byte i on, one bit late, and the bit that is left. The register has seen the bits before the handle.
+fn put_end(room: &mut [u8], i: usize, before: u64, register: u16, handle: u16)
+    requires { ⌜ i + 4 < length (now room) ⌝ }
+    ensures { λ _. ⌜ now (room .exit) ≡ ended (now (room .entry)) i before handle (65535 - run register (bitsOf 16 handle)) ⌝ }
+{
+    let sum = from_word(!crc::step16(register, handle));
+    let both = from_word(handle) * 0x10000 + sum;
+    store_four(room, i, before % 2 * 0x8000_0000 + both / 2);
+    room[i + 4] = low_byte(sum % 2 * 128);
+}
+
+// Words i and i + 1 of an image as one number.
+fn two_words(image: &[u8], i: usize) -> u64
+    requires { ⌜ 2 * i + 3 < length (now image) ⌝ }
+    ensures { λ r. ⌜ (r ≡ twoWords (now (image .entry)) i) × (r < 2 ^ 32) ⌝ }
+{
+    ((from_byte(image[2 * i]) * 256 + from_byte(image[2 * i + 1])) * 256
+        + from_byte(image[2 * i + 2]))
+        * 256
+        + from_byte(image[2 * i + 3])
+}
+
+fn four_words(image: &[u8], i: usize) -> u64
+    requires { ⌜ 2 * i + 7 < length (now image) ⌝ }
+    ensures { λ r. ⌜ r ≡ fourWords (now (image .entry)) i ⌝ }
+{
+    two_words(image, i) * 0x1_0000_0000 + two_words(image, i + 2)
+}
+
+// A word from byte i on, one bit late; and four words.
+fn put_late(room: &mut [u8], i: usize, before: u64, w: u16)
+    requires { ⌜ i + 1 < length (now room) ⌝ }
+    ensures { λ _. ⌜ now (room .exit) ≡ withBytes 2 (now (room .entry)) i (late 15 before w) ⌝ }
+{
+    store_two(room, i, before % 2 * 0x8000 + from_word(w) / 2);
+}
+
+fn put_late_four(room: &mut [u8], i: usize, before: u64, w: u64)
+    requires { ⌜ i + 7 < length (now room) ⌝ }
+    ensures { λ _. ⌜ now (room .exit) ≡ withBytes 8 (now (room .entry)) i (late 63 before w) ⌝ }
+{
+    store_eight(room, i, before % 2 * 0x8000_0000_0000_0000 + w / 2);
+}
+
+// A 0, words of the image, the handle and the CRC-16.
+fn put_words(room: &mut [u8], image: &[u8], from: usize, count: usize, handle: u16)
+    requires { ⌜ (2 * (from + count) ≤ length (now image)) × (2 * count + 5 ≤ length (now room)) ⌝ }
+    ensures { λ _. ⌜ now (room .exit) ≡ packed (replyBits (now (image .entry)) (Reply.Words from count handle)) (now (room .entry)) ⌝ }
+{
+    let mut before: u64 = 0;
+    let mut register = crc::step(0xFFFF, 0);
+    let mut j: usize = 0;
+    while j + 4 <= count {
+        let w = four_words(image, from + j);
+        put_late_four(room, 2 * j, before, w);
+        register = crc::step64(register, w);
+        before = w;
+        j += 4;
+    }
+    while j < count {
+        let w = bits::word(image, from + j);
+        put_late(room, 2 * j, before, w);
+        register = crc::step16(register, w);
+        before = from_word(w);
+        j += 1;
+    }
+    put_end(room, 2 * count, before, register, handle);
+}
+
+// A 1, a code, the handle and the CRC-16.
+fn put_error(room: &mut [u8], code: u8, handle: u16)
+    requires { ⌜ 5 < length (now room) ⌝ }
+    ensures { λ _. ⌜ now (room .exit) ≡ packed (replyBits [] (Reply.Error code handle)) (now (room .entry)) ⌝ }
+{
+    let register = crc::step8(crc::step(0xFFFF, 1), code);
+    room[0] = 128 + code / 2;
+    put_end(room, 1, from_byte(code), register, handle);
+}
+
+// A number and the CRC-16.
+fn put_number(room: &mut [u8], number: u16)
+    requires { ⌜ 3 < length (now room) ⌝ }
+    ensures { λ _. ⌜ now (room .exit) ≡ packed (replyBits [] (Reply.Number number)) (now (room .entry)) ⌝ }
+{
+    let sum = from_word(!crc::step16(0xFFFF, number));
+    store_four(room, 0, from_word(number) * 0x10000 + sum);
+}
+
+// Packs a reply into the room.
+pub fn put(room: &mut [u8], image: &[u8], reply: Reply)
+    requires { ⌜ (2 * replyEnd reply ≤ length (now image)) × (replyBytes reply ≤ length (now room)) ⌝ }
+    ensures { λ _. ⌜ now (room .exit) ≡ packed (replyBits (now (image .entry)) reply) (now (room .entry)) ⌝ }
+{
+    match reply {
+        Reply::Silence => {}
+        Reply::Number(number) => put_number(room, number),
+        Reply::Success(handle) => put_words(room, image, 0, 0, handle),
+        Reply::Words(from, count, handle) => {
+            put_words(room, image, from as usize, count as usize, handle)
+        }
+        Reply::Error(code, handle) => put_error(room, code, handle),
+    }
+}
+
+// Packs words of the image alone, as the port gives them.
+pub fn put_plain(room: &mut [u8], image: &[u8], from: usize, count: usize)
+    requires { ⌜ (2 * (from + count) ≤ length (now image)) × (2 * count ≤ length (now room)) ⌝ }
+    ensures { λ _. ⌜ now (room .exit) ≡ packed (wordsBits (now (image .entry)) from count) (now (room .entry)) ⌝ }
+{
+    let mut j: usize = 0;
+    while j < count {
+        room[2 * j] = image[2 * (from + j)];
+        room[2 * j + 1] = image[2 * (from + j) + 1];
+        j += 1;
+    }
+}
+
+// Packs so many words of 0.
+pub fn put_zeros(room: &mut [u8], count: usize)
+    requires { ⌜ 2 * count ≤ length (now room) ⌝ }
+    ensures { λ _. ⌜ now (room .exit) ≡ packed (replicate (16 * count) 0) (now (room .entry)) ⌝ }
+{
+    let bytes = 2 * count;
+    let mut k: usize = 0;
+    while k < bytes {
+        room[k] = 0;
+        k += 1;
+    }
 }
