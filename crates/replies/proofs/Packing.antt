@@ -12,7 +12,7 @@ use Rattle.bits.specs.Words.{wordAt}
 use Rattle.bits.specs.Bits.{bitsOf}
 use Rattle.bits.proofs.Bits.{length-bits, bits-split}
 use Rattle.replies.specs.Pack.{filled, packed}
-use Rattle.replies.specs.Replies.{wordsBits}
+use Rattle.bits.specs.Bits.{wordsBits}
 use Rattle.replies.specs.Steps.{withBytes}
 use Rattle.replies.proofs.Laws.{packed-none, length-words}
 

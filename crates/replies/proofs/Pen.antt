@@ -13,7 +13,8 @@ use Rattle.bits.proofs.Digits.{bits-join, bits-late}
 use Rattle.crc.specs.Crc.{run, crcOf}
 use Rattle.crc.proofs.Runs.{run-append}
 use Rattle.replies.specs.Pack.{filled, packed}
-use Rattle.replies.specs.Replies.{wordsBits, checked}
+use Rattle.replies.specs.Replies.{checked}
+use Rattle.bits.specs.Bits.{wordsBits}
 use Rattle.replies.specs.Steps.{withBytes, late, ended, twoWords, fourWords}
 use Rattle.replies.proofs.Laws.{packed-none}
 use Rattle.replies.proofs.Packing.{next, next-bytes}

@@ -7,7 +7,8 @@ use Rattle.bits.specs.Words.{wordAt}
 use Rattle.bits.specs.Bits.{bitsOf}
 use Rattle.crc.specs.Crc.{crcOf}
 use Rattle.replies.specs.Pack.{filled, packed}
-use Rattle.replies.specs.Replies.{wordsBits, checked, replyBits}
+use Rattle.replies.specs.Replies.{checked, replyBits}
+use Rattle.bits.specs.Bits.{wordsBits}
 use Rattle.replies.specs.declared.Reply.{Reply}
 use Rattle.replies.specs.declared.Reply.the-variants.{Silence, Number, Success, Words, Error}
 

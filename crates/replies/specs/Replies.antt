@@ -1,16 +1,10 @@
 -- The bits of each reply (RULES 3.9 and 3.10). Assumes nothing.
-use Prim.Native.Nat.{ℕ, zero, suc, _+_, _*_, _/_}
+use Prim.Native.Nat.{ℕ, _+_, _*_, _/_}
 use mathlib.Core.List.{List, [], _∷_, _++_}
-use Rattle.bits.specs.Words.{wordAt}
-use Rattle.bits.specs.Bits.{bitsOf}
+use Rattle.bits.specs.Bits.{bitsOf, wordsBits}
 use Rattle.crc.specs.Crc.{crcOf}
 use Rattle.replies.specs.declared.Reply.{Reply}
 use Rattle.replies.specs.declared.Reply.the-variants.{Silence, Number, Success, Words, Error}
-
--- the bits of k words of the image m from word i on
-unfoldable pub wordsBits : List ℕ → ℕ → ℕ → List ℕ
-wordsBits m i zero = []
-wordsBits m i (suc k) = wordsBits m i k ++ bitsOf 16 (wordAt m (i + k))
 
 -- 3.10: bits with the CRC-16 over all of them behind them
 unfoldable pub checked : List ℕ → List ℕ

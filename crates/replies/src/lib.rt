@@ -5,7 +5,8 @@ ghost use Prim.Native.Nat.{_+_, _-_, _*_, _%_, _^_, _≤_, _<_};
 ghost use lib.ListN.{length, replicate};
 ghost use Rattle.bits.specs.Bits.{bitsOf};
 ghost use Rattle.crc.specs.Crc.{run};
-ghost use Rattle.replies.specs.Replies.{replyBits, replyLength, replyBytes, replyEnd, wordsBits};
+ghost use Rattle.replies.specs.Replies.{replyBits, replyLength, replyBytes, replyEnd};
+ghost use Rattle.bits.specs.Bits.{wordsBits};
 ghost use Rattle.replies.specs.Pack.{packed};
 ghost use Rattle.replies.specs.Steps.{withBytes, late, ended, twoWords, fourWords};
 

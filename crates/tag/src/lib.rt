@@ -1,7 +1,7 @@
 // The tag: a session, and every operation on it and an image. Each has its answer for any input (RULES 5).
-mod power;
+mod starting;
 
-pub use power::power_up;
+pub use starting::power_up;
 
 // A cover number, if there is one.
 pub enum Cover {

@@ -2,7 +2,7 @@
 use denote.Ref.{now}
 use mathlib.Core.Path.{sym}
 use native.Mathlib.Omega.{arith}
-use Rattle.replies.specs.Replies.{wordsBits}
+use Rattle.bits.specs.Bits.{wordsBits}
 use Rattle.replies.proofs.Laws.{packed-none}
 use borrow.Author.Needs.{needs}
 use Rattle.replies.proofs.put.Statement.{statement}

@@ -6,7 +6,7 @@ use native.Mathlib.Omega.{arith}
 use lib.ListN.{length, length-set}
 use borrow.Author.Needs.{needs}
 use Rattle.replies.specs.Pack.{packed}
-use Rattle.replies.specs.Replies.{wordsBits}
+use Rattle.bits.specs.Bits.{wordsBits}
 use Rattle.replies.proofs.Laws.{packed-none}
 use Rattle.replies.proofs.Packing.{word-copied}
 use Rattle.replies.proofs.put_plain.Statement.{statement}

@@ -6,7 +6,7 @@ use mathlib.Core.List.{List}
 use native.Mathlib.Omega.{arith}
 use lib.ListN.{length, getD}
 use borrow.Author.Needs.{needs}
-use Rattle.replies.specs.Replies.{wordsBits}
+use Rattle.bits.specs.Bits.{wordsBits}
 use Rattle.replies.proofs.Pen.{Sent, begun, one-more, four-more, all-told}
 use Rattle.replies.proofs.put_words.Statement.{statement}
 use Rattle.replies.proofs.put_words.Tie as tie
