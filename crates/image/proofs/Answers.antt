@@ -4,8 +4,9 @@ use mathlib.Core.Path.{_≡_, refl, sym, _∙_, subst}
 use mathlib.Core.Bool.{Bool, true, false, not, cond}
 use mathlib.Core.List.{List}
 use native.Mathlib.Omega.{arith}
+use lib.Dec.{eqb}
 use lib.ListN.{length}
-use borrow.Author.Tests.{le-ltb, ltb-false}
+use borrow.Author.Tests.{le-ltb, eqb-false}
 use Rattle.image.specs.declared.Layout.{Layout}
 use Rattle.image.specs.Layout.{end, layoutOf, headerGood}
 use Rattle.image.specs.Content.{contentGood}
@@ -55,3 +56,48 @@ check-good m y = go (short m) (headerGood (layoutOf m) m) (contentGood (layoutOf
 -- a good image is at most 4,802 words
 pub good-size : (y : Layout) (m : List ℕ) → Good y m → length m ≤ 2 * 4802
 good-size y m g = let h = g .header in omega arith
+
+-- which of the three conditions hold, from the answer
+rows : (m : List ℕ) {a b c : Bool} → short m ≡ a → headerWrong m ≡ b → contentBroken m ≡ c
+    → checkOf m ≡ cond a (refused 1) (cond b (refused 2) (cond c (refused 3) (good (layoutOf m))))
+unfolding checkOf
+rows m p q r = rw (← p, ← q, ← r)
+
+apart : (a b : ℕ) → eqb a b ≡ false → refused a ≡ refused b → ⊥
+apart a b n e = let z : a ≡ b = cc in eqb-false a b n z
+
+pub check-1 : (m : List ℕ) → refused 1 ≡ checkOf m → short m ≡ true
+check-1 m e = go (short m) (headerWrong m) (contentBroken m) refl refl refl
+  where
+    go : (a b c : Bool) → short m ≡ a → headerWrong m ≡ b → contentBroken m ≡ c → short m ≡ true
+    go true b c p q r = p
+    go false true c p q r = absurd (apart 1 2 refl (e ∙ rows m p q r))
+    go false false true p q r = absurd (apart 1 3 refl (e ∙ rows m p q r))
+    go false false false p q r = absurd (never 1 (e ∙ rows m p q r))
+
+pub check-2 : (m : List ℕ) → refused 2 ≡ checkOf m → (short m ≡ false) × (headerWrong m ≡ true)
+check-2 m e = go (short m) (headerWrong m) (contentBroken m) refl refl refl
+  where
+    go : (a b c : Bool) → short m ≡ a → headerWrong m ≡ b → contentBroken m ≡ c → (short m ≡ false) × (headerWrong m ≡ true)
+    go true b c p q r = absurd (apart 2 1 refl (e ∙ rows m p q r))
+    go false true c p q r = (p, q)
+    go false false true p q r = absurd (apart 2 3 refl (e ∙ rows m p q r))
+    go false false false p q r = absurd (never 2 (e ∙ rows m p q r))
+
+pub check-3 : (m : List ℕ) → refused 3 ≡ checkOf m → (short m ≡ false) × (headerWrong m ≡ false) × (contentBroken m ≡ true)
+check-3 m e = go (short m) (headerWrong m) (contentBroken m) refl refl refl
+  where
+    go : (a b c : Bool) → short m ≡ a → headerWrong m ≡ b → contentBroken m ≡ c → (short m ≡ false) × (headerWrong m ≡ false) × (contentBroken m ≡ true)
+    go true b c p q r = absurd (apart 3 1 refl (e ∙ rows m p q r))
+    go false true c p q r = absurd (apart 3 2 refl (e ∙ rows m p q r))
+    go false false true p q r = (p, q, r)
+    go false false false p q r = absurd (never 3 (e ∙ rows m p q r))
+
+pub check-0 : (m : List ℕ) (y : Layout) → good y ≡ checkOf m → (short m ≡ false) × (headerWrong m ≡ false) × (contentBroken m ≡ false)
+check-0 m y e = go (short m) (headerWrong m) (contentBroken m) refl refl refl
+  where
+    go : (a b c : Bool) → short m ≡ a → headerWrong m ≡ b → contentBroken m ≡ c → (short m ≡ false) × (headerWrong m ≡ false) × (contentBroken m ≡ false)
+    go true b c p q r = absurd (never 1 (sym (e ∙ rows m p q r)))
+    go false true c p q r = absurd (never 2 (sym (e ∙ rows m p q r)))
+    go false false true p q r = absurd (never 3 (sym (e ∙ rows m p q r)))
+    go false false false p q r = (p, q, r)

@@ -20,7 +20,9 @@ use Rattle.image.specs.Layout.{end, pairsIn}
 use Rattle.image.specs.Content.{countIn, pairAt, pending, pcWord, lengthOf}
 use Rattle.image.specs.Rules.{Header, Content, Good}
 use Rattle.image.proofs.Fits.{go-below}
-use Rattle.stores.specs.Stores.{staged, finished, changeStores, settling}
+use Rattle.bits.specs.Below.{below}
+use Rattle.bits.proofs.Below.{length-below}
+use Rattle.stores.specs.Stores.{staged, finished, changeStores, epcCrc, settling, powerStores}
 use Rattle.stores.specs.Steps.{Ran, Made, Announced, announced, pairIn, pairsAt, wordFrom, chosenAt, chosen}
 use Rattle.stores.specs.declared.Staged.{Staged}
 use Rattle.stores.proofs.Runs.{shifted, shifted-append, shifted-staged, length-staged, ran-tail, ran-append, ran-out, ran-none, ran-whole, ran-made}
@@ -146,3 +148,19 @@ part-crc m i k h =
     ∙ bits-drop m (2 * i) 0 (16 * k)
     ∙ ap (λ (x : ℕ). bitsFrom m x (16 * k)) z
     ∙ words-bits m i k h)
+
+-- how many stores a power-up needs
+pub power-idle : (y : Layout) (m : List ℕ) → countIn y m ≡ 0 → length (powerStores y m) ≡ 1
+unfolding powerStores
+power-idle y m z = ap (λ (c : ℕ). length (finished (y .work .at) (below (pairAt y m) c) ++ (store (y .epc .at) (epcCrc y (after m (finished (y .work .at) (below (pairAt y m) c)))) ∷ []))) z
+
+length-some : (w : ℕ) (xs : List Store) → (length xs ≡ 0 → ⊥) → length (finished w xs) ≡ length xs + 1
+length-some w [] h = absurd (h refl)
+length-some w (x ∷ xs) h = simp length-append
+
+pub power-some : (y : Layout) (m : List ℕ) → (countIn y m ≡ 0 → ⊥) → length (powerStores y m) ≡ countIn y m + 2
+unfolding powerStores
+power-some y m h =
+    let n : length (pending y m) ≡ countIn y m = length-below (pairAt y m) (countIn y m) in
+    let k : length (settling y m) ≡ length (pending y m) + 1 = length-some (y .work .at) (pending y m) (λ e. h (sym n ∙ e)) in
+    simp length-append (omega (arith, n, k))

@@ -1,98 +1,46 @@
+-- `tag::starting::power_up` meets its contract: by the check's answer. Assumes nothing.
+use Rattle.tag.specs.Power.{powerUpOf}
+use Rattle.image.proofs.Answers.{check-good, check-0, check-1, check-2, check-3}
+use mathlib.Core.Path.{sym}
+use denote.Ref.{now}
 use borrow.Author.Needs.{needs}
 use Rattle.tag.proofs.starting.power_up.Statement.{statement}
 use Rattle.tag.proofs.starting.power_up.Tie as tie
-use Rattle.tag.proofs.starting.power_up.Reads as reads
-use Rattle.tag.proofs.starting.power_up.Lts as lts
-use Rattle.image.proofs.check.Reads as check-reads
-use Rattle.tag.proofs.starting.start.Reads as start-reads
-use Rattle.tag.proofs.starting.stopped.Reads as stopped-reads
 
--- src/starting.rt:100:11
-check-requires : tie.Need-check-requires
-check-requires c κs = search needs
-
--- src/starting.rt:101:31
-enum-told : tie.Need-enum-told
-enum-told c = search needs
-
--- src/starting.rt:101:23
-stopped-requires : tie.Need-stopped-requires
-stopped-requires c κs = search needs
-
--- src/starting.rt:102:32
-enum-told-2 : tie.Need-enum-told-2
-enum-told-2 c = search needs
-
--- src/starting.rt:102:24
-stopped-requires-2 : tie.Need-stopped-requires-2
-stopped-requires-2 c κs = search needs
-
--- src/starting.rt:103:33
-enum-told-3 : tie.Need-enum-told-3
-enum-told-3 c = search needs
-
--- src/starting.rt:103:25
-stopped-requires-3 : tie.Need-stopped-requires-3
-stopped-requires-3 c κs = search needs
-
--- src/starting.rt:104:19
-enum-known-y : tie.Need-enum-known-y
-enum-known-y c = search needs
-
--- src/starting.rt:104:25
 start-requires : tie.Need-start-requires
-start-requires c κs = ?
+start-requires c κs = let a = c .before .before .before .before .before .before .before .args in
+    check-good (now (a .image)) _ (sym (rw (c .before .before .y .given .1) at (c .before .before .before .before .check .ensures)))
 
--- src/starting.rt:97:1
-same-length : tie.Need-same-length
-same-length c = search needs
-
--- src/starting.rt:97:1
 returns : tie.Need-returns
-returns c = ?
+unfolding powerUpOf
+returns c = let a = c .before .before .before .before .before .before .args in
+    let e = rw (c .before .enum-told .given .1) at (c .before .before .before .check .ensures) in
+    rw (c .stopped .ensures) (simp (check-1 (now (a .image)) e))
 
--- src/starting.rt:97:1
-same-length-2 : tie.Need-same-length-2
-same-length-2 c = search needs
-
--- src/starting.rt:97:1
 returns-2 : tie.Need-returns-2
-returns-2 c = ?
+unfolding powerUpOf
+returns-2 c = let a = c .before .before .before .before .before .before .args in
+    let h = check-2 (now (a .image)) (rw (c .before .enum-told2 .given .1) at (c .before .before .before .check .ensures)) in
+    rw (c .stopped2 .ensures) (simp (h .0, h .1))
 
--- src/starting.rt:97:1
-same-length-3 : tie.Need-same-length-3
-same-length-3 c = search needs
-
--- src/starting.rt:97:1
 returns-3 : tie.Need-returns-3
-returns-3 c = ?
+unfolding powerUpOf
+returns-3 c = let a = c .before .before .before .before .before .before .args in
+    let h = check-3 (now (a .image)) (rw (c .before .enum-told3 .given .1) at (c .before .before .before .check .ensures)) in
+    rw (c .stopped3 .ensures) (simp (h .0, h .1, h .2))
 
--- src/starting.rt:97:1
-same-length-4 : tie.Need-same-length-4
-same-length-4 c = search needs
-
--- src/starting.rt:97:1
 returns-4 : tie.Need-returns-4
-returns-4 c = ?
+unfolding powerUpOf
+returns-4 c = let a = c .before .before .before .before .before .before .before .before .before .before .args in
+    let e = rw (c .before .before .before .before .before .y .given .1) at (c .before .before .before .before .before .before .before .check .ensures) in
+    let h = check-0 (now (a .image)) _ e in
+    let l = check-good (now (a .image)) _ (sym e) .layout in
+    rw (c .before .before .start .ensures) (simp (h .0, h .1, h .2, ← l))
 
 pub power-up-spec : {M : Type 1} → statement M
 power-up-spec =
     tie.close
-    (tie.spec
-    check-requires
-    enum-told
-    stopped-requires
-    enum-told-2
-    stopped-requires-2
-    enum-told-3
-    stopped-requires-3
-    enum-known-y
-    start-requires
-    same-length
-    returns
-    same-length-2
-    returns-2
-    same-length-3
-    returns-3
-    same-length-4
+    (tie.spec (λ c κs. search needs) (λ c. search needs) (λ c κs. search needs) (λ c. search needs)
+    (λ c κs. search needs) (λ c. search needs) (λ c κs. search needs) (λ c. search needs) start-requires
+    (λ c. search needs) returns (λ c. search needs) returns-2 (λ c. search needs) returns-3 (λ c. search needs)
     returns-4)

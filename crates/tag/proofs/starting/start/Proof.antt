@@ -1,54 +1,39 @@
+-- `tag::starting::start` meets its contract: cut or whole. Assumes nothing.
+use Rattle.tag.specs.Power.{started}
+use Rattle.stores.specs.Stores.{powerStores}
+use Rattle.bits.specs.Words.{after}
+use lib.Seq.{take-all}
+use lib.ListN.{length}
+use mathlib.Core.Path.{_≡_, sym, ap, _∙_}
+use Prim.Native.Nat.{_≤_, _<_}
+use native.Mathlib.Omega.{arith}
+use denote.Ref.{now}
+use borrow.Author.Tests.{eq-eqb, ne-eqb, lt-ltb, le-ltb}
 use borrow.Author.Needs.{needs}
 use Rattle.tag.proofs.starting.start.Statement.{statement}
 use Rattle.tag.proofs.starting.start.Tie as tie
-use Rattle.tag.proofs.starting.start.Reads as reads
-use Rattle.tag.proofs.starting.start.Lts as lts
-use Rattle.stores.proofs.power.Reads as power-reads
-use Rattle.tag.proofs.starting.first_session.Reads as first-session-reads
-use Rattle.tag.proofs.starting.needed.Reads as needed-reads
-use Rattle.tag.proofs.starting.stopped.Reads as stopped-reads
 
--- src/starting.rt:82:9
-needed-requires : tie.Need-needed-requires
-needed-requires c κs = search needs
-
--- src/starting.rt:83:9
-power-requires : tie.Need-power-requires
-power-requires c κs = search needs
-
--- src/starting.rt:85:9
-stopped-requires : tie.Need-stopped-requires
-stopped-requires c κs = search needs
-
--- src/starting.rt:85:9
-same-length : tie.Need-same-length
-same-length c = search needs
-
--- src/starting.rt:85:9
 returns : tie.Need-returns
-returns c = ?
+unfolding started
+returns c = let a = c .before .before .before .before .before .before .before .before .before .args in
+    let n : length (powerStores (a .y) (now (a .image))) ≡ c .before .before .before .before .before .before .needed .result = sym (c .before .before .before .before .before .before .needed .ensures) in
+    let p = c .before .before .before .before .power .ensures in
+    let l : a .s < length (powerStores (a .y) (now (a .image))) = omega (arith, n, c .before .if1 .taken) in
+    let k : c .before .before .before .before .power .result ≡ a .s = omega (arith, p .made, l) in
+    rw (c .stopped .ensures, k, p .image) (simp (lt-ltb _ _ l))
 
--- src/starting.rt:89:18
-first-session-requires : tie.Need-first-session-requires
-first-session-requires c κs = search needs
-
--- src/starting.rt:78:1
-same-length-2 : tie.Need-same-length-2
-same-length-2 c = search needs
-
--- src/starting.rt:78:1
 returns-2 : tie.Need-returns-2
-returns-2 c = ?
+unfolding started
+returns-2 c = let a = c .before .before .before .before .before .before .before .before .before .before .args in
+    let n : length (powerStores (a .y) (now (a .image))) ≡ c .before .before .before .before .before .before .before .needed .result = sym (c .before .before .before .before .before .before .before .needed .ensures) in
+    let p = c .before .before .before .before .before .power .ensures in
+    let l : length (powerStores (a .y) (now (a .image))) ≤ a .s = omega (arith, n, c .before .before .if1 .left) in
+    let k : c .before .before .before .before .before .power .result ≡ length (powerStores (a .y) (now (a .image))) = omega (arith, p .made, l) in
+    let e : c .before .before .before .before .before .power .last .0 ≡ after (now (a .image)) (powerStores (a .y) (now (a .image))) = p .image ∙ ap (after (now (a .image))) (take-all _ _ l) in
+    rw (c .first-session .ensures, k, e) (simp (le-ltb _ _ l))
 
 pub start-spec : {M : Type 1} → statement M
 start-spec =
     tie.close
-    (tie.spec
-    needed-requires
-    power-requires
-    stopped-requires
-    same-length
-    returns
-    first-session-requires
-    same-length-2
-    returns-2)
+    (tie.spec (λ c κs. search needs) (λ c κs. search needs) (λ c κs. search needs) (λ c. search needs) returns
+    (λ c κs. search needs) (λ c. search needs) returns-2)
