@@ -1,4 +1,6 @@
 pub mod Session
 pub mod Result
 pub mod Power
+pub mod Commands
+pub mod Table
 pub mod Steps

@@ -80,3 +80,20 @@ pub struct Outcome {
     pub stores: usize,
     pub value: u8,
 }
+
+// An order's part in a password: Req_RN's number, a half, or none.
+pub enum Part {
+    Number,
+    Access(u16),
+    Kill(u16),
+    Other,
+}
+
+// What an order asks of the session.
+pub struct Asks {
+    pub early: bool,
+    pub secured: bool,
+    pub cover: bool,
+    pub bad: bool,
+    pub part: Part,
+}

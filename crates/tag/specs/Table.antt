@@ -1,0 +1,183 @@
+-- The answer table for frames, in its order (RULES 5). Assumes nothing.
+use Prim.Native.Nat.{ℕ}
+use mathlib.Core.Bool.{Bool, true, false, not, _&&_, _||_}
+use mathlib.Core.List.{List, [], _∷_}
+use lib.Dec.{eqb, ltb}
+use lib.ListN.{length, take}
+use Rattle.bits.specs.Words.{Store, after}
+use Rattle.bits.specs.First.{first}
+use Rattle.image.specs.declared.Layout.{Layout}
+use Rattle.image.specs.Layout.{layoutOf}
+use Rattle.image.specs.Content.{countIn}
+use Rattle.image.specs.Check.{short, headerWrong, contentBroken}
+use Rattle.frames.specs.declared.Heard.{Heard}
+use Rattle.frames.specs.declared.Heard.the-variants as heard
+use Rattle.frames.specs.Frames.{heardOf, checksumRight}
+use Rattle.replies.specs.declared.Reply.{Reply}
+use Rattle.replies.specs.declared.Reply.the-variants as reply
+use Rattle.replies.specs.Replies.{replyBits, replyLength, replyBytes}
+use Rattle.replies.specs.Pack.{packed}
+use Rattle.rights.specs.declared.Code.{Code}
+use Rattle.rights.specs.declared.Code.the-variants as code
+use Rattle.stores.specs.Stores.{changeStores}
+use Rattle.tag.specs.declared.State.{State}
+use Rattle.tag.specs.declared.State.the-variants as state
+use Rattle.tag.specs.declared.Live.{Live}
+use Rattle.tag.specs.declared.Power.{Power}
+use Rattle.tag.specs.declared.Power.the-variants as power
+use Rattle.tag.specs.declared.Session.{Session}
+use Rattle.tag.specs.Session.{offSession}
+use Rattle.tag.specs.Result.{Result}
+use Rattle.tag.specs.Commands.{asksOf, linkOf, isSecured, wrong, breaks, codeOf, used, stateAfter, replyAfter, wordsAfter}
+
+-- what a frame call is handed
+pub record Input : Type 0 where
+  pub session : Session
+  pub image : List ℕ
+  pub frame : List ℕ
+  pub bits : ℕ
+  pub fresh : ℕ
+  pub room : List ℕ
+  pub power : ℕ
+
+abbrev pub layout : Input → Layout
+layout i = layoutOf (i .image)
+
+abbrev pub said : Input → Heard
+said i = heardOf (i .frame) (i .bits)
+
+abbrev pub isOff : Power → Bool
+isOff power.Off = true
+isOff (power.On l) = false
+
+-- of an Off session nothing is asked past answer 5: a free one in Arbitrate stands in
+abbrev pub liveOf : Power → Live
+liveOf power.Off = record { state = state.Arbitrate; held = false; register = record { unwritten = false; killed = false } }
+liveOf (power.On l) = l
+
+abbrev pub live : Input → Live
+live i = liveOf (i .session .power)
+
+abbrev pub stateOf : Input → State
+stateOf i = live i .state
+
+abbrev pub malformed : Heard → Bool
+malformed heard.Malformed = true
+malformed heard.Nak = false
+malformed (heard.Said c) = false
+
+-- NAK has no CRC
+abbrev pub checksumWrong : List ℕ → ℕ → Heard → Bool
+checksumWrong f n heard.Malformed = false
+checksumWrong f n heard.Nak = false
+checksumWrong f n (heard.Said c) = not (checksumRight f n)
+
+abbrev pub broken : Input → Heard → Bool
+broken i heard.Malformed = false
+broken i heard.Nak = false
+broken i (heard.Said c) = let k = linkOf (stateOf i) in breaks (layout i) (i .image) k (k .half) (asksOf (c .order) .part)
+
+abbrev pub errorCode : Input → Heard → Code
+errorCode i heard.Malformed = code.Nothing
+errorCode i heard.Nak = code.Nothing
+errorCode i (heard.Said c) = codeOf (layout i) (i .image) (isSecured (stateOf i)) (linkOf (stateOf i)) (i .frame) (c .order)
+
+-- NAK: Arbitrate, and no reply
+abbrev pub newState : Input → Heard → State
+newState i heard.Malformed = stateOf i
+newState i heard.Nak = state.Arbitrate
+newState i (heard.Said c) = stateAfter (layout i) (i .image) (i .fresh) (stateOf i) (c .order)
+
+abbrev pub doneReply : Input → Heard → Reply
+doneReply i heard.Malformed = reply.Silence
+doneReply i heard.Nak = reply.Silence
+doneReply i (heard.Said c) = replyAfter (layout i) (i .fresh) (linkOf (stateOf i)) (c .order)
+
+abbrev pub doneWords : Input → Heard → List Store
+doneWords i heard.Malformed = []
+doneWords i heard.Nak = []
+doneWords i (heard.Said c) = wordsAfter (layout i) (i .image) (linkOf (stateOf i)) (i .frame) (c .order)
+
+abbrev pub isError : Code → Bool
+isError code.Nothing = false
+isError (code.Error e) = true
+
+-- the reply: the error's where there is one
+abbrev pub replyOr : Code → ℕ → Reply → Reply
+replyOr code.Nothing handle r = r
+replyOr (code.Error e) handle r = reply.Error e handle
+
+abbrev pub replyOf : Input → Reply
+replyOf i = replyOr (errorCode i (said i)) (linkOf (stateOf i) .handle) (doneReply i (said i))
+
+abbrev pub storesOf : Input → List Store
+storesOf i = changeStores (layout i .work .at) (doneWords i (said i))
+
+abbrev pub fits : Reply → List ℕ → Bool
+fits r room = not (ltb (length room) (replyBytes r))
+
+-- the session in another state; port and register stay
+abbrev pub movedTo : Live → State → Session
+movedTo l st = record { power = power.On (record { state = st; held = l .held; register = l .register }) }
+
+-- what answers leave: everything; Arbitrate; the first s stores, Off and no reply; a reply with its state and stores
+abbrev pub everything : Input → ℕ → Result
+everything i n =
+    record { number = n; session = i .session; reply = 0; stores = 0; value = 0; image = i .image; room = i .room }
+
+abbrev pub dropped : Input → Result
+dropped i =
+    record {
+      number = 12;
+      session = movedTo (live i) state.Arbitrate;
+      reply = 0;
+      stores = 0;
+      value = 0;
+      image = i .image;
+      room = i .room;
+    }
+
+abbrev pub cut : Input → Result
+cut i =
+    record {
+      number = 11;
+      session = offSession;
+      reply = 0;
+      stores = i .power;
+      value = 0;
+      image = after (i .image) (take (i .power) (storesOf i));
+      room = i .room;
+    }
+
+abbrev pub replied : Input → ℕ → State → List Store → Result
+replied i n st ss =
+    record {
+      number = n;
+      session = movedTo (live i) st;
+      reply = replyLength (replyOf i);
+      stores = length ss;
+      value = 0;
+      image = after (i .image) ss;
+      room = packed (replyBits (i .image) (replyOf i)) (i .room);
+    }
+
+-- THE TABLE: what is left, and when
+abbrev pub rows : Input → List (Result × Bool)
+rows i =
+    (everything i 1, short (i .image))
+    ∷ (everything i 2, headerWrong (i .image))
+    ∷ (everything i 3, contentBroken (i .image))
+    ∷ (everything i 5, isOff (i .session .power) || not (eqb (countIn (layout i) (i .image)) 0))
+    ∷ (everything i 6, live i .held)
+    ∷ (everything i 7, malformed (said i))
+    ∷ (everything i 8, checksumWrong (i .frame) (i .bits) (said i))
+    ∷ (everything i 9, wrong (stateOf i) (said i))
+    ∷ (dropped i, broken i (said i))
+    ∷ (replied i 10 (used (stateOf i)) [], isError (errorCode i (said i)) && fits (replyOf i) (i .room))
+    ∷ (everything i 4, not (fits (replyOf i) (i .room)))
+    ∷ (cut i, ltb (i .power) (length (storesOf i)))
+    ∷ []
+
+-- the outcome of a frame
+unfoldable pub frameOf : Input → Result
+frameOf i = first (rows i) (replied i 0 (newState i (said i)) (storesOf i))
