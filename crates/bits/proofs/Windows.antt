@@ -1,6 +1,6 @@
 -- A field of up to 16 bits lies in a window of three bytes. Assumes nothing.
 use Prim.Native.Nat.{ℕ, zero, suc, _+_, _-_, _*_, _/_, _%_, _^_, _<_, _≤_}
-use mathlib.Core.Path.{_≡_, sym, ap, _∙_}
+use mathlib.Core.Path.{_≡_, sym, ap, ap₂, _∙_}
 use mathlib.Core.Logic.{_⊎_, inl, inr, ⊎-elim}
 use mathlib.Core.List.{List}
 use native.Mathlib.Nat.{mod-one, mod-lt}
@@ -9,6 +9,7 @@ use native.Mathlib.Decide.{decLt}
 use lib.ListN.{getD}
 use lib.Pow.{shr-shr, shl-exact, pow-pos, pow-mono}
 use Rattle.bits.specs.Bits.{bitAt, fieldAt}
+use Rattle.bits.specs.Words.{wordAt}
 use Rattle.bits.specs.Steps.{windowAt}
 use Rattle.bits.proofs.Bits.{bit-of, digits}
 
@@ -68,3 +69,13 @@ modulus n h = shl-exact {a = 1} 1 n 32 (omega arith) (omega arith) ∙ omega ari
 -- a field of n bits fits 16
 pub modulus-small : (n x : ℕ) → n ≤ 16 → x % (1 * 2 ^ n % 4294967296) < 65536
 modulus-small n x h = rw (modulus n h) (omega (arith, mod-lt x (pow-pos n), pow-mono {i = n} {j = 16} h))
+
+-- a field of 16 bits that begins with a word is the word
+pub field-word : (m : List ℕ) (i : ℕ) → ((j : ℕ) → getD m j 0 < 256) → fieldAt m (16 * i) 16 ≡ wordAt m i
+unfolding windowAt wordAt
+field-word m i bytes =
+    let k : 16 * i / 8 ≡ 2 * i = omega arith in
+    let z : 24 - 16 * i % 8 - 16 ≡ 8 = omega arith in
+    in-window m (16 * i) 16 bytes (omega arith)
+    ∙ ap₂ (λ (a b : ℕ). windowAt m a / 2 ^ b % 2 ^ 16) k z
+    ∙ omega (arith, bytes (2 * i), bytes (2 * i + 1), bytes (2 * i + 2))

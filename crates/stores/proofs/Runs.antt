@@ -1,15 +1,15 @@
 -- How runs of stores start, go on and end, under a limited power. Assumes nothing.
-use Prim.Native.Nat.{ℕ, zero, suc, _+_, _*_, _-_, _≤_, _<_, min}
+use Prim.Native.Nat.{ℕ, zero, suc, _+_, _*_, _-_, _/_, _%_, _^_, _≤_, _<_, min}
 use mathlib.Core.Path.{_≡_, refl, ap, sym, _∙_}
 use mathlib.Core.Logic.{_≢_}
 use mathlib.Core.Bool.{Bool, true, false, cond}
 use lib.Dec.{eqb}
 use mathlib.Core.List.{List, [], _∷_, _++_, append-assoc, append-nil}
 use native.Mathlib.Numerals.{add-one}
-use native.Mathlib.Nat.{sub-zero}
+use native.Mathlib.Nat.{sub-zero, zero-div}
 use native.Mathlib.Omega.{arith}
 use borrow.Author.Tests.{eq-eqb, ne-eqb}
-use lib.ListN.{length, take, drop, length-append, take-append-drop, length-drop, drop-of-length-le}
+use lib.ListN.{length, getD, take, drop, length-append, take-append-drop, length-drop, drop-of-length-le}
 use borrow.Rule.Slice.PartMut.{putMid}
 use lib.Seq.{take-nil, take-all}
 use Rattle.bits.specs.Words.{wordAt, withWord, Store, store, after}
@@ -164,3 +164,15 @@ none-announced (x ∷ xs) h p = absurd (omega (arith, p .pairs))
 pub chosen-most : (o : ℕ) (d : List ℕ) (p : ℕ) (z : List ℕ) (n : ℕ) → length (chosen o d p z n) ≤ n
 chosen-most o d p z zero = omega arith
 chosen-most o d p z (suc n) = simp length-append (omega (arith, chosen-most o d p z n, chosen-few o d p z n))
+
+-- where none is passed over
+pub chosen-all : (o : ℕ) (d : List ℕ) (p : ℕ) (z : List ℕ) (n : ℕ) → ((j : ℕ) → bitAt z j ≡ 0) → chosen o d p z n ≡ below (wordFrom o d p) n
+chosen-all o d p z zero h = refl
+chosen-all o d p z (suc n) h = rw (chosen-all o d p z n h, eq-eqb (bitAt z n) 0 (h n))
+
+pub no-bit : (j : ℕ) → bitAt (0 ∷ []) j ≡ 0
+no-bit j = go (j / 8)
+  where
+    go : (k : ℕ) → getD (0 ∷ []) k 0 / 2 ^ (7 - j % 8) % 2 ≡ 0
+    go zero = ap (λ (x : ℕ). x % 2) (zero-div (2 ^ (7 - j % 8)))
+    go (suc k) = ap (λ (x : ℕ). x % 2) (zero-div (2 ^ (7 - j % 8)))
