@@ -1,1 +1,3 @@
 pub mod Rights
+pub mod Steps
+pub mod Cases
