@@ -20,6 +20,7 @@ use Rattle.frames.specs.declared.Heard.{Heard}
 use Rattle.frames.specs.declared.Heard.the-variants as heard
 use Rattle.frames.specs.Frames.{exactly, pointed, heardOf}
 use Rattle.frames.proofs.Codes.{beyond}
+use Rattle.frames.proofs.Pointers.{few}
 
 -- the words that a frame of n bits brings are followed by the number and the CRC-16
 abbrev Brings : ℕ → Order → Type 0
@@ -29,10 +30,10 @@ Brings n (order.Write s w) = Unit {0}
 Brings n (order.Kill h) = Unit {0}
 Brings n (order.Lock m a) = Unit {0}
 Brings n (order.Access h) = Unit {0}
-Brings n (order.BlockWrite s p) = p + 16 * s .count + 32 ≡ n
+Brings n (order.BlockWrite s p) = (p + 16 * s .count + 32 ≡ n) × (p ≤ 51)
 Brings n (order.BlockErase s) = Unit {0}
 Brings n (order.ReadPermalock r s) = Unit {0}
-Brings n (order.Permalock r s p) = p + 16 * s .count + 32 ≡ n
+Brings n (order.Permalock r s p) = (p + 16 * s .count + 32 ≡ n) × (p ≤ 51)
 
 abbrev Sized : ℕ → Heard → Type 0
 Sized n heard.Malformed = Unit {0}
@@ -46,9 +47,12 @@ exact-sized m n k o l b = go (eqb n k) refl
     go true e = rw (eqb-true n k e) (l, b)
     go false e = tt
 
-pointed-sized : (n : ℕ) (p : Pointer) (f : ℕ → ℕ → Heard) → ((v e : ℕ) → Sized n (f v e)) → Sized n (pointed p f)
-pointed-sized n pointer.Malformed f h = tt
-pointed-sized n (pointer.Whole v e) f h = h v e
+pointed-sized : (m : List ℕ) (n i : ℕ) (f : ℕ → ℕ → Heard) → ((v e : ℕ) → e ≤ 3 → Sized n (f v e)) → Sized n (pointed (pointerAt m n i) f)
+pointed-sized m n i f h = go (pointerAt m n i) refl
+  where
+    go : (p : Pointer) → p ≡ pointerAt m n i → Sized n (pointed p f)
+    go pointer.Malformed e = tt
+    go (pointer.Whole v b) e = h v b (few m n i e refl)
 
 cond-sized : (n : ℕ) (t : Bool) (a b : Heard) → Sized n a → Sized n b → Sized n (cond t a b)
 cond-sized n true a b p q = p
@@ -61,14 +65,14 @@ heard-sized m n =
     cond-sized n (ltb (8 * length m) n || ltb n 8) _ _ tt
     (cond-sized n (eqb code 0xC0) _ _ (cond-sized n (eqb n 8) heard.Nak heard.Malformed tt tt)
     (cond-sized n (eqb code 0xC1) _ _ (exact-sized m n _ _ (omega arith) tt)
-    (cond-sized n (eqb code 0xC2) _ _ (pointed-sized n (pointerAt m n 10) _ (λ v e. exact-sized m n _ _ (omega arith) tt))
-    (cond-sized n (eqb code 0xC3) _ _ (pointed-sized n (pointerAt m n 10) _ (λ v e. exact-sized m n _ _ (omega arith) tt))
+    (cond-sized n (eqb code 0xC2) _ _ (pointed-sized m n 10 _ (λ v e l. exact-sized m n _ _ (omega arith) tt))
+    (cond-sized n (eqb code 0xC3) _ _ (pointed-sized m n 10 _ (λ v e l. exact-sized m n _ _ (omega arith) tt))
     (cond-sized n (eqb code 0xC4) _ _ (exact-sized m n _ _ (omega arith) tt)
     (cond-sized n (eqb code 0xC5) _ _ (exact-sized m n _ _ (omega arith) tt)
     (cond-sized n (eqb code 0xC6) _ _ (exact-sized m n _ _ (omega arith) tt)
-    (cond-sized n (eqb code 0xC7) _ _ (pointed-sized n (pointerAt m n 10) _ (λ v e. exact-sized m n _ _ (omega arith) (omega arith)))
-    (cond-sized n (eqb code 0xC8) _ _ (pointed-sized n (pointerAt m n 10) _ (λ v e. exact-sized m n _ _ (omega arith) tt))
-    (cond-sized n (eqb code 0xC9) _ _ (pointed-sized n (pointerAt m n 19) _ (λ v e. cond-sized n (eqb (fieldAt m 16 1) 0) _ _ (exact-sized m n _ _ (omega arith) tt) (exact-sized m n _ _ (omega arith) (omega arith)))) tt))))))))))
+    (cond-sized n (eqb code 0xC7) _ _ (pointed-sized m n 10 _ (λ v e l. exact-sized m n _ _ (omega arith) (omega arith, omega arith)))
+    (cond-sized n (eqb code 0xC8) _ _ (pointed-sized m n 10 _ (λ v e l. exact-sized m n _ _ (omega arith) tt))
+    (cond-sized n (eqb code 0xC9) _ _ (pointed-sized m n 19 _ (λ v e l. cond-sized n (eqb (fieldAt m 16 1) 0) _ _ (exact-sized m n _ _ (omega arith) tt) (exact-sized m n _ _ (omega arith) (omega arith, omega arith)))) tt))))))))))
 
 never : {c : Command} → heard.Malformed ≡ heard.Said c → ⊥
 never e = let z : _≡_ {A = ℕ} 0 1 = cc in omega arith
@@ -87,8 +91,8 @@ module _ (m : List ℕ) (n : ℕ) (c : Command) (said : heardOf m n ≡ heard.Sa
   pub said-bounds : (40 ≤ n) × (n ≤ 8 * length m)
   said-bounds = (sized .0, held)
 
-  pub said-block-write : (s : Span) (p : ℕ) → c .order ≡ order.BlockWrite s p → p + 16 * s .count + 32 ≡ n
+  pub said-block-write : (s : Span) (p : ℕ) → c .order ≡ order.BlockWrite s p → (p + 16 * s .count + 32 ≡ n) × (p ≤ 51)
   said-block-write s p e = rw e at (sized .1)
 
-  pub said-permalock : (r : ℕ) (s : Span) (p : ℕ) → c .order ≡ order.Permalock r s p → p + 16 * s .count + 32 ≡ n
+  pub said-permalock : (r : ℕ) (s : Span) (p : ℕ) → c .order ≡ order.Permalock r s p → (p + 16 * s .count + 32 ≡ n) × (p ≤ 51)
   said-permalock r s p e = rw e at (sized .1)

@@ -1,9 +1,86 @@
--- Outcomes as the code makes them. Assumes nothing.
-use Prim.Native.Nat.{ℕ}
+-- Outcomes, plans and the table's ends as the code makes them. Assumes nothing.
+use Prim.Native.Nat.{ℕ, _+_, _≤_, _<_}
+use mathlib.Core.Bool.{Bool, cond, not}
+use mathlib.Core.List.{List, [], _∷_}
+use lib.Dec.{ltb}
+use lib.ListN.{length, take}
+use Rattle.bits.specs.Words.{Store, after}
+use Rattle.image.specs.declared.Layout.{Layout}
+use Rattle.image.specs.Content.{lockWord}
+use Rattle.frames.specs.declared.Span.{Span}
+use Rattle.frames.specs.declared.Order.{Order}
+use Rattle.frames.specs.declared.Order.the-variants as order
+use Rattle.frames.specs.declared.Command.{Command}
+use Rattle.replies.specs.declared.Reply.{Reply}
+use Rattle.replies.specs.declared.Reply.the-variants as reply
+use Rattle.replies.specs.Replies.{replyBits, replyLength}
+use Rattle.replies.specs.Pack.{packed}
+use Rattle.rights.specs.declared.Code.{Code}
+use Rattle.rights.specs.declared.Code.the-variants as code
+use Rattle.rights.specs.Rights.{bankOf, spanWords, lockedTo}
+use Rattle.changes.specs.declared.Change.{Change}
+use Rattle.changes.specs.declared.Change.the-variants as change
+use Rattle.stores.specs.Stores.{changeStores}
+use Rattle.tag.specs.declared.Half.{Half}
+use Rattle.tag.specs.declared.Half.the-variants as half
+use Rattle.tag.specs.declared.Link.{Link}
+use Rattle.tag.specs.declared.State.{State}
+use Rattle.tag.specs.declared.State.the-variants as state
+use Rattle.tag.specs.declared.Live.{Live}
+use Rattle.tag.specs.declared.Power.the-variants as power
+use Rattle.tag.specs.declared.Session.{Session}
 use Rattle.tag.specs.declared.Answer.{Answer}
 use Rattle.tag.specs.declared.Outcome.{Outcome}
 use Rattle.tag.specs.Session.{offSession}
+use Rattle.tag.specs.Result.{Result}
+use Rattle.tag.specs.Commands.{uncovered, placeOf}
 
 -- an Off session, after so many stores
 abbrev pub stoppedAt : Answer → ℕ → Outcome
 stoppedAt a k = record { answer = a; session = offSession; reply = 0; stores = k; value = 0 }
+
+-- the words of a frame begin in its first bytes
+abbrev pub Placed : Order → Type 0
+Placed order.ReqRn = Unit {0}
+Placed (order.Read s) = Unit {0}
+Placed (order.Write s w) = Unit {0}
+Placed (order.Kill h) = Unit {0}
+Placed (order.Lock m a) = Unit {0}
+Placed (order.Access h) = Unit {0}
+Placed (order.BlockWrite s p) = p ≤ 51
+Placed (order.BlockErase s) = Unit {0}
+Placed (order.ReadPermalock r s) = Unit {0}
+Placed (order.Permalock r s p) = p ≤ 51
+
+-- the words that a reply shows have 16-bit places and counts
+abbrev pub Shown : Layout → Order → Type 0
+Shown y order.ReqRn = Unit {0}
+Shown y (order.Read s) = (placeOf y s < 65536) × (s .pointer ≤ bankOf y (s .bank) .words)
+Shown y (order.Write s w) = Unit {0}
+Shown y (order.Kill h) = Unit {0}
+Shown y (order.Lock m a) = Unit {0}
+Shown y (order.Access h) = Unit {0}
+Shown y (order.BlockWrite s p) = Unit {0}
+Shown y (order.BlockErase s) = Unit {0}
+Shown y (order.ReadPermalock r s) = y .perma .at + s .pointer < 65536
+Shown y (order.Permalock r s p) = Unit {0}
+
+unfoldable pub replyRead : Layout → ℕ → Span → Reply
+replyRead y handle s = reply.Words (placeOf y s) (spanWords y s) handle
+
+abbrev pub killChange : Layout → Half → Change
+killChange y half.Nothing = change.Nothing
+killChange y (half.Access up) = change.Nothing
+killChange y (half.Kill up) = change.Word (y .status .at + 1) 1
+
+abbrev pub changeAfter : Layout → List ℕ → Link → Order → Change
+changeAfter y m k order.ReqRn = change.Nothing
+changeAfter y m k (order.Read s) = change.Nothing
+changeAfter y m k (order.Write s w) = change.Word (placeOf y s) (uncovered (k .cover) w)
+changeAfter y m k (order.Kill h) = killChange y (k .half)
+changeAfter y m k (order.Lock mask action) = change.Word (y .status .at) (lockedTo (lockWord y m) mask action)
+changeAfter y m k (order.Access h) = change.Nothing
+changeAfter y m k (order.BlockWrite s p) = change.Frame (placeOf y s) (s .count) p
+changeAfter y m k (order.BlockErase s) = change.Zeros (placeOf y s) (s .count)
+changeAfter y m k (order.ReadPermalock r s) = change.Nothing
+changeAfter y m k (order.Permalock r s p) = change.Mask (y .perma .at + s .pointer) (s .count) p

@@ -1,7 +1,10 @@
 // The tag: a session, and every operation on it and an image. Each has its answer for any input (RULES 5).
+mod acting;
 mod orders;
 mod starting;
 
+use changes::Change;
+use replies::Reply;
 pub use starting::power_up;
 
 // A cover number, if there is one.
@@ -97,4 +100,11 @@ pub struct Asks {
     pub cover: bool,
     pub bad: bool,
     pub part: Part,
+}
+
+// What is done: the state afterwards, the reply, and what is stored.
+pub struct Plan {
+    pub state: State,
+    pub reply: Reply,
+    pub change: Change,
 }

@@ -1,0 +1,44 @@
+use borrow.Author.Needs.{needs}
+use Rattle.tag.proofs.acting.read_reply.Statement.{statement}
+use Rattle.tag.proofs.acting.read_reply.Tie as tie
+use Rattle.tag.proofs.acting.read_reply.Reads as reads
+use Rattle.tag.proofs.acting.read_reply.Lts as lts
+use Rattle.rights.proofs.bank.Reads as bank-reads
+use Rattle.tag.proofs.acting.place.Reads as place-reads
+
+-- src/acting.rt:67:14
+place-requires : tie.Need-place-requires
+place-requires c κs = search needs
+
+-- src/acting.rt:67:14
+cast-at : tie.Need-cast-at
+cast-at c = search needs
+
+-- src/acting.rt:69:17
+bank-requires : tie.Need-bank-requires
+bank-requires c κs = search needs
+
+-- src/acting.rt:69:17
+cast-n : tie.Need-cast-n
+cast-n c = search needs
+
+-- src/acting.rt:69:17
+sub-n : tie.Need-sub-n
+sub-n c = ?
+
+-- src/acting.rt:70:33
+cast-t10 : tie.Need-cast-t10
+cast-t10 c = search needs
+
+-- src/acting.rt:70:9
+returns : tie.Need-returns
+returns c = ?
+
+-- src/acting.rt:63:1
+returns-2 : tie.Need-returns-2
+returns-2 c = ?
+
+pub read-reply-spec : {M : Type 1} → statement M
+read-reply-spec =
+    tie.close
+    (tie.spec place-requires cast-at bank-requires cast-n sub-n cast-t10 returns returns-2)

@@ -1,0 +1,29 @@
+use borrow.Author.Needs.{needs}
+use Rattle.tag.proofs.acting.second_word.Statement.{statement}
+use Rattle.tag.proofs.acting.second_word.Tie as tie
+use Rattle.tag.proofs.acting.second_word.Reads as reads
+use Rattle.tag.proofs.acting.second_word.Lts as lts
+use Rattle.bits.proofs.field.Reads as field-reads
+
+-- src/acting.rt:23:35
+add-field : tie.Need-add-field
+add-field c = search needs
+
+-- src/acting.rt:23:9
+field-requires : tie.Need-field-requires
+field-requires c κs = search needs
+
+-- src/acting.rt:23:9
+returns : tie.Need-returns
+returns c = ?
+
+-- src/acting.rt:25:5
+field-requires-2 : tie.Need-field-requires-2
+field-requires-2 c κs = search needs
+
+-- src/acting.rt:18:1
+returns-2 : tie.Need-returns-2
+returns-2 c = ?
+
+pub second-word-spec : {M : Type 1} → statement M
+second-word-spec = tie.close (tie.spec add-field field-requires returns field-requires-2 returns-2)
