@@ -1,4 +1,5 @@
 // The tag: a session, and every operation on it and an image. Each has its answer for any input (RULES 5).
+mod orders;
 mod starting;
 
 pub use starting::power_up;
