@@ -1,5 +1,8 @@
 // The tag: a session, and every operation on it and an image. Each has its answer for any input (RULES 5).
+<<<<<<< HEAD
 mod acting;
+=======
+>>>>>>> orders
 mod orders;
 mod starting;
 

@@ -1,7 +1,6 @@
 // What an order asks of the session, and the state that it leaves (RULES 3.12 to 3.17).
 ghost use mathlib.Core.Path.{_≡_};
 ghost use mathlib.Core.Bool.{not, _&&_, _||_};
-ghost use Prim.Native.Nat.{_<_};
 ghost use lib.Dec.{eqb};
 ghost use Rattle.tag.specs.declared.Half.the-variants as half;
 ghost use Rattle.tag.specs.Commands.{asks, asksOf, noLink, linkOf, isSecured, isKilled, hears as hearsOf, isCovered, uncovered as uncoveredOf, wrongCommand, killWord, accessWord, breaks as breaksOf, killCode, coveredBy, withLink, used as usedOf, halved as halvedOf, numbered as numberedOf, accessed as accessedOf, killed, stateAfter, killReply};
@@ -159,19 +158,17 @@ pub fn is_wrong(state: State, c: Command) -> bool
 }
 
 // A half of the kill password.
-fn kill_word(image: &[u8], y: Layout, i: usize) -> u16
-    requires { ⌜ i < 2 ⌝ }
+fn kill_word(image: &[u8], y: Layout, i: u16) -> u16
     ensures { λ r. ⌜ r ≡ killWord y (now (image .entry)) i ⌝ }
 {
-    bits::word(image, y.reserved.at as usize + i)
+    bits::word(image, y.reserved.at as usize + i as usize)
 }
 
 // A half of the access password.
-fn access_word(image: &[u8], y: Layout, i: usize) -> u16
-    requires { ⌜ i < 2 ⌝ }
+fn access_word(image: &[u8], y: Layout, i: u16) -> u16
     ensures { λ r. ⌜ r ≡ accessWord y (now (image .entry)) i ⌝ }
 {
-    bits::word(image, y.reserved.at as usize + 2 + i)
+    bits::word(image, y.reserved.at as usize + 2 + i as usize)
 }
 
 // Answer 12 while the upper half of an Access waits.
@@ -281,7 +278,7 @@ pub fn halved(k: Link, half: Half) -> Link
     }
 }
 
-// The state of a tag whose handle is new.
+// The state that Req_RN makes of Acknowledged, whatever its number: Secured if the access password is zero, else Open.
 fn opened(image: &[u8], y: Layout, fresh: u16) -> State
     ensures { λ r. ⌜ r ≡ numberedOf y (now (image .entry)) fresh (State.Acknowledged 0) ⌝ }
 {
