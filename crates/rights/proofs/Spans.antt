@@ -55,16 +55,9 @@ module _ (f : ℕ → Bool) (p n : ℕ) where
       down e =
           and-both low high
           (unless (eqb n 0) (leb 2 p) (f 0)
-          (λ a b. (let s : 0 < n = some a in let l : p + 0 < 2 = omega (arith, leb-false 2 p b) in rw (lt-ltb _ _ l) at (every-at part n e 0 s))))
+          (λ a b. (let s : 0 < n = omega (arith, eqb-false n 0 a) in let l : p + 0 < 2 = omega (arith, leb-false 2 p b) in rw (lt-ltb _ _ l) at (every-at part n e 0 s))))
           (unless (eqb n 0) (leb (p + n) 2) (f 1)
-          (λ a b. (let s : 0 < n = some a in let l : 2 ≤ p + (n - 1) = omega (arith, leb-false (p + n) 2 b) in rw (le-ltb _ _ l) at (every-at part n e (n - 1) (omega arith)))))
-        where
-          some : eqb n 0 ≡ false → 0 < n
-          some a = go (decLt 0 n)
-            where
-              go : Dec (0 < n) → 0 < n
-              go (yes l) = l
-              go (no l) = absurd (eqb-false n 0 a (omega arith))
+          (λ a b. (let s : 0 < n = omega (arith, eqb-false n 0 a) in let l : 2 ≤ p + (n - 1) = omega (arith, leb-false (p + n) 2 b) in rw (le-ltb _ _ l) at (every-at part n e (n - 1) (omega arith)))))
 
       up : low && high ≡ true → every part n ≡ true
       up e = every-all part n (λ j h. go j h (decLt (p + j) 2))
