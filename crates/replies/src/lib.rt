@@ -21,7 +21,7 @@ pub enum Reply {
 
 // How many bits a reply has.
 pub fn bit_count(reply: Reply) -> usize
-    ensures { λ n. ⌜ n ≡ replyLength reply ⌝ }
+    ensures { λ n. ⌜ (n ≡ replyLength reply) × (n < 2 ^ 32) ⌝ }
 {
     match reply {
         Reply::Silence => 0,

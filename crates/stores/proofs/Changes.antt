@@ -6,6 +6,7 @@ use mathlib.Core.Bool.{Bool, true, false, cond}
 use native.Mathlib.Omega.{arith}
 use native.Mathlib.Decide.{decLe}
 use lib.Dec.{eqb}
+use borrow.Author.Tests.{ne-eqb}
 use lib.ListN.{length, getD, take, drop, length-append, length-drop}
 use lib.Seq.{take-all, take-append-le}
 use borrow.Rule.Slice.PartMut.{putMid}
@@ -164,3 +165,11 @@ power-some y m h =
     let n : length (pending y m) ≡ countIn y m = length-below (pairAt y m) (countIn y m) in
     let k : length (settling y m) ≡ length (pending y m) + 1 = length-some (y .work .at) (pending y m) (λ e. h (sym n ∙ e)) in
     simp length-append (omega (arith, n, k))
+
+-- how many stores a change needs
+pub change-needs : (w : ℕ) (ss : List Store) → length (changeStores w ss) ≡ cond (eqb (length ss) 0) 0 (3 * length ss + 2)
+change-needs w [] = refl
+change-needs w (x ∷ xs) =
+    let n : length (x ∷ xs) ≡ 0 → ⊥ = λ q. omega arith in
+    let e : length (finished w (x ∷ xs)) ≡ length (x ∷ xs) + 1 = length-some w (x ∷ xs) n in
+    simp (length-append, length-staged) (omega (arith, e)) ∙ sym (ap (λ (b : Bool). cond b 0 (3 * length (x ∷ xs) + 2)) (ne-eqb (length (x ∷ xs)) 0 n))

@@ -1,8 +1,8 @@
 -- Outcomes, plans and the table's ends as the code makes them. Assumes nothing.
-use Prim.Native.Nat.{ℕ, _+_, _≤_, _<_}
+use Prim.Native.Nat.{ℕ, _+_, _*_, _≤_, _<_}
 use mathlib.Core.Bool.{Bool, cond, not}
 use mathlib.Core.List.{List, [], _∷_}
-use lib.Dec.{ltb}
+use lib.Dec.{eqb, ltb}
 use lib.ListN.{length, take}
 use Rattle.bits.specs.Words.{Store, after}
 use Rattle.image.specs.declared.Layout.{Layout}
@@ -33,7 +33,8 @@ use Rattle.tag.specs.declared.Answer.{Answer}
 use Rattle.tag.specs.declared.Outcome.{Outcome}
 use Rattle.tag.specs.Session.{offSession}
 use Rattle.tag.specs.Result.{Result}
-use Rattle.tag.specs.Commands.{uncovered, placeOf}
+use Rattle.tag.specs.Commands.{asksOf, linkOf, isSecured, wrongCommand, breaks, codeOf, used, uncovered, placeOf, stateAfter, replyAfter, wordsAfter}
+use Rattle.tag.specs.Table.{fits, movedTo}
 
 -- an Off session, after so many stores
 abbrev pub stoppedAt : Answer → ℕ → Outcome
@@ -84,3 +85,74 @@ changeAfter y m k (order.BlockWrite s p) = change.Frame (placeOf y s) (s .count)
 changeAfter y m k (order.BlockErase s) = change.Zeros (placeOf y s) (s .count)
 changeAfter y m k (order.ReadPermalock r s) = change.Nothing
 changeAfter y m k (order.Permalock r s p) = change.Mask (y .perma .at + s .pointer) (s .count) p
+
+-- a session under power
+abbrev pub onSession : Live → Session
+onSession l = record { power = power.On l }
+
+-- everything stays
+abbrev pub refusedWith : Live → Answer → Outcome
+refusedWith l a = record { answer = a; session = onSession l; reply = 0; stores = 0; value = 0 }
+
+abbrev pub kept : ℕ → Live → List ℕ → List ℕ → Result
+kept n l m room =
+    record { number = n; session = onSession l; reply = 0; stores = 0; value = 0; image = m; room = room }
+
+-- an error's reply, or no room for it
+unfoldable pub errorEnd : Live → List ℕ → List ℕ → ℕ → Result
+errorEnd l m room e =
+    let r = reply.Error e (linkOf (l .state) .handle) in
+    cond (fits r room)
+    (record {
+      number = 10;
+      session = movedTo l (used (l .state));
+      reply = replyLength r;
+      stores = 0;
+      value = 0;
+      image = m;
+      room = packed (replyBits m r) room;
+    })
+    (kept 4 l m room)
+
+-- no room for the reply, too little power, or done; WORK is at word w
+unfoldable pub doneEnd : Live → ℕ → List ℕ → List ℕ → ℕ → Reply → State → List Store → Result
+doneEnd l w m room s r st ss =
+    let stores = changeStores w ss in
+    cond (not (fits r room)) (kept 4 l m room)
+    (cond (ltb s (length stores))
+    (record {
+      number = 11;
+      session = offSession;
+      reply = 0;
+      stores = s;
+      value = 0;
+      image = after m (take s stores);
+      room = room;
+    })
+    (record {
+      number = 0;
+      session = movedTo l st;
+      reply = replyLength r;
+      stores = length stores;
+      value = 0;
+      image = after m stores;
+      room = packed (replyBits m r) room;
+    }))
+
+-- how many stores a change of c words needs
+abbrev pub neededFor : ℕ → ℕ
+neededFor c = cond (eqb c 0) 0 (3 * c + 2)
+
+-- by the error code
+abbrev pub byCode : Code → Live → ℕ → List ℕ → List ℕ → ℕ → Reply → State → List Store → Result
+byCode code.Nothing l w m room s r st ss = doneEnd l w m room s r st ss
+byCode (code.Error e) l w m room s r st ss = errorEnd l m room e
+
+-- a command whose frame is whole
+unfoldable pub commandOf : Live → Layout → List ℕ → List ℕ → ℕ → List ℕ → ℕ → Command → Result
+commandOf l y m f fresh room s c =
+    let k = linkOf (l .state) in
+    cond (wrongCommand (l .state) c) (kept 9 l m room)
+    (cond (breaks y m k (k .half) (asksOf (c .order) .part))
+    (record { number = 12; session = movedTo l state.Arbitrate; reply = 0; stores = 0; value = 0; image = m; room = room })
+    (byCode (codeOf y m (isSecured (l .state)) k f (c .order)) l (y .work .at) m room s (replyAfter y fresh k (c .order)) (stateAfter y m fresh (l .state) (c .order)) (wordsAfter y m k f (c .order))))

@@ -1,8 +1,6 @@
 // The tag: a session, and every operation on it and an image. Each has its answer for any input (RULES 5).
-<<<<<<< HEAD
 mod acting;
-=======
->>>>>>> orders
+mod answering;
 mod orders;
 mod starting;
 

@@ -41,7 +41,7 @@ fn fresh(state: State) -> Session
 }
 
 // A refused power-up: nothing is changed, and the session is Off.
-fn stopped(answer: Answer, stores: usize) -> Outcome
+pub fn stopped(answer: Answer, stores: usize) -> Outcome
     ensures { λ r. ⌜ r ≡ stoppedAt answer stores ⌝ }
 {
     Outcome {

@@ -4,7 +4,7 @@ use Rattle.replies.proofs.bit_count.Statement.{statement}
 use Rattle.replies.proofs.bit_count.Tie as tie
 
 returns-4 : tie.Need-returns-4
-returns-4 c = rw (c .before .reply .given .1)
+returns-4 c = (rw (c .before .reply .given .1), search needs)
 
 pub bit-count-spec : {M : Type 1} → statement M
 bit-count-spec =

@@ -107,43 +107,43 @@ cast-t29 c = search needs
 
 -- src/acting.rt:110:1
 returns : tie.Need-returns
-returns c = ?
+returns c = rw (c .enum-told .given .1)
 
 -- src/acting.rt:110:1
 returns-2 : tie.Need-returns-2
-returns-2 c = ?
+returns-2 c = rw (c .enum-told2 .given .1)
 
 -- src/acting.rt:110:1
 returns-3 : tie.Need-returns-3
-returns-3 c = ?
+returns-3 c = rw (c .before .before .before .order .given .1, c .before .place .ensures .0, c .uncovered .ensures)
 
 -- src/acting.rt:110:1
 returns-4 : tie.Need-returns-4
-returns-4 c = ?
+returns-4 c = rw (c .before .enum-told3 .given .1) (c .kill-change .ensures)
 
 -- src/acting.rt:110:1
 returns-5 : tie.Need-returns-5
-returns-5 c = ?
+returns-5 c = rw (c .before .before .before .order2 .given .1, c .locked .ensures, c .before .word .ensures)
 
 -- src/acting.rt:110:1
 returns-6 : tie.Need-returns-6
-returns-6 c = ?
+returns-6 c = rw (c .enum-told4 .given .1)
 
 -- src/acting.rt:110:1
 returns-7 : tie.Need-returns-7
-returns-7 c = ?
+returns-7 c = rw (c .before .before .before .order3 .given .1, c .before .place2 .ensures .0)
 
 -- src/acting.rt:110:1
 returns-8 : tie.Need-returns-8
-returns-8 c = ?
+returns-8 c = rw (c .before .before .before .order4 .given .1, c .before .place3 .ensures .0)
 
 -- src/acting.rt:110:1
 returns-9 : tie.Need-returns-9
-returns-9 c = ?
+returns-9 c = rw (c .enum-told5 .given .1)
 
 -- src/acting.rt:110:1
 returns-10 : tie.Need-returns-10
-returns-10 c = ?
+returns-10 c = rw (c .before .before .before .before .order5 .given .1)
 
 pub change-after-spec : {M : Type 1} → statement M
 change-after-spec =

@@ -1,3 +1,4 @@
+use native.Mathlib.Omega.{arith}
 use borrow.Author.Needs.{needs}
 use Rattle.tag.proofs.acting.code_of.Statement.{statement}
 use Rattle.tag.proofs.acting.code_of.Tie as tie
@@ -62,7 +63,7 @@ enum-known-order-4 c = search needs
 
 -- src/acting.rt:46:17
 second-word-requires : tie.Need-second-word-requires
-second-word-requires c κs = ?
+second-word-requires c κs = rw (c .before .order4 .given .1) at (c .before .before .before .before .before .pre)
 
 -- src/acting.rt:47:13
 write-code-requires-2 : tie.Need-write-code-requires-2
@@ -90,47 +91,47 @@ enum-known-order-7 c = search needs
 
 -- src/acting.rt:51:38
 perma-code-requires : tie.Need-perma-code-requires
-perma-code-requires c κs = ?
+perma-code-requires c κs = omega (arith, rw (c .before .order7 .given .1) at (c .before .before .before .before .before .pre))
 
 -- src/acting.rt:29:1
 returns : tie.Need-returns
-returns c = ?
+returns c = rw (c .enum-told .given .1)
 
 -- src/acting.rt:29:1
 returns-2 : tie.Need-returns-2
-returns-2 c = ?
+returns-2 c = rw (c .before .before .order .given .1) (c .read-code .ensures)
 
 -- src/acting.rt:29:1
 returns-3 : tie.Need-returns-3
-returns-3 c = ?
+returns-3 c = rw (c .before .before .before .order2 .given .1) (rw (c .before .uncovered .ensures) at (c .write-code .ensures))
 
 -- src/acting.rt:29:1
 returns-4 : tie.Need-returns-4
-returns-4 c = ?
+returns-4 c = rw (c .before .enum-told2 .given .1) (c .kill-code .ensures)
 
 -- src/acting.rt:29:1
 returns-5 : tie.Need-returns-5
-returns-5 c = ?
+returns-5 c = rw (c .before .before .order3 .given .1) (c .lock-code .ensures)
 
 -- src/acting.rt:29:1
 returns-6 : tie.Need-returns-6
-returns-6 c = ?
+returns-6 c = rw (c .enum-told3 .given .1)
 
 -- src/acting.rt:29:1
 returns-7 : tie.Need-returns-7
-returns-7 c = ?
+returns-7 c = rw (c .before .before .before .order4 .given .1) (rw (c .before .second-word .ensures) at (c .write-code2 .ensures))
 
 -- src/acting.rt:29:1
 returns-8 : tie.Need-returns-8
-returns-8 c = ?
+returns-8 c = rw (c .before .before .order5 .given .1) (c .write-code3 .ensures)
 
 -- src/acting.rt:29:1
 returns-9 : tie.Need-returns-9
-returns-9 c = ?
+returns-9 c = rw (c .before .before .order6 .given .1) (c .perma-read-code .ensures)
 
 -- src/acting.rt:29:1
 returns-10 : tie.Need-returns-10
-returns-10 c = ?
+returns-10 c = rw (c .before .before .order7 .given .1) (c .perma-code .ensures)
 
 pub code-of-spec : {M : Type 1} → statement M
 code-of-spec =

@@ -34,7 +34,7 @@ returns-2 c = search needs
 
 -- src/acting.rt:99:1
 returns-3 : tie.Need-returns-3
-returns-3 c = ?
+returns-3 c = rw (c .before .enum-told3 .given .1)
 
 pub kill-change-spec : {M : Type 1} → statement M
 kill-change-spec =

@@ -23,7 +23,7 @@ add-result c = search needs
 
 -- src/acting.rt:56:1
 returns : tie.Need-returns
-returns c = ?
+returns c = (rw (c .before .before .bank .ensures), search needs)
 
 pub place-spec : {M : Type 1} → statement M
 place-spec = tie.close (tie.spec bank-requires cast-result cast-result-2 add-result returns)

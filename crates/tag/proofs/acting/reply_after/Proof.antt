@@ -1,3 +1,5 @@
+use Rattle.tag.specs.Steps.{replyRead}
+use native.Mathlib.Omega.{arith}
 use borrow.Author.Needs.{needs}
 use Rattle.tag.proofs.acting.reply_after.Statement.{statement}
 use Rattle.tag.proofs.acting.reply_after.Tie as tie
@@ -16,7 +18,7 @@ enum-known-order c = search needs
 
 -- src/acting.rt:84:27
 read-reply-requires : tie.Need-read-reply-requires
-read-reply-requires c κs = ?
+read-reply-requires c κs = rw (c .before .order .given .1) at (c .before .before .before .pre)
 
 -- src/acting.rt:85:31
 enum-told-2 : tie.Need-enum-told-2
@@ -56,11 +58,11 @@ cast-t10 c = search needs
 
 -- src/acting.rt:92:27
 add-t11 : tie.Need-add-t11
-add-t11 c = ?
+add-t11 c = omega (arith, rw (c .before .before .before .order2 .given .1) at (c .before .before .before .before .before .pre))
 
 -- src/acting.rt:92:26
 cast-t12 : tie.Need-cast-t12
-cast-t12 c = ?
+cast-t12 c = record { fits = omega (arith, rw (c .before .before .before .order2 .given .1) at (c .before .before .before .before .before .pre)) }
 
 -- src/acting.rt:94:38
 enum-told-8 : tie.Need-enum-told-8
@@ -68,43 +70,44 @@ enum-told-8 c = search needs
 
 -- src/acting.rt:76:1
 returns : tie.Need-returns
-returns c = ?
+returns c = rw (c .enum-told .given .1)
 
 -- src/acting.rt:76:1
 returns-2 : tie.Need-returns-2
-returns-2 c = ?
+unfolding replyRead
+returns-2 c = rw (c .before .before .order .given .1) (c .read-reply .ensures)
 
 -- src/acting.rt:76:1
 returns-3 : tie.Need-returns-3
-returns-3 c = ?
+returns-3 c = rw (c .enum-told2 .given .1)
 
 -- src/acting.rt:76:1
 returns-4 : tie.Need-returns-4
-returns-4 c = ?
+returns-4 c = rw (c .before .enum-told3 .given .1) (c .kill-reply .ensures)
 
 -- src/acting.rt:76:1
 returns-5 : tie.Need-returns-5
-returns-5 c = ?
+returns-5 c = rw (c .enum-told4 .given .1)
 
 -- src/acting.rt:76:1
 returns-6 : tie.Need-returns-6
-returns-6 c = ?
+returns-6 c = rw (c .enum-told5 .given .1)
 
 -- src/acting.rt:76:1
 returns-7 : tie.Need-returns-7
-returns-7 c = ?
+returns-7 c = rw (c .enum-told6 .given .1)
 
 -- src/acting.rt:76:1
 returns-8 : tie.Need-returns-8
-returns-8 c = ?
+returns-8 c = rw (c .enum-told7 .given .1)
 
 -- src/acting.rt:76:1
 returns-9 : tie.Need-returns-9
-returns-9 c = ?
+returns-9 c = rw (c .before .before .before .order2 .given .1)
 
 -- src/acting.rt:76:1
 returns-10 : tie.Need-returns-10
-returns-10 c = ?
+returns-10 c = rw (c .enum-told8 .given .1)
 
 pub reply-after-spec : {M : Type 1} → statement M
 reply-after-spec =
