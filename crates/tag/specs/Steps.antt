@@ -30,9 +30,10 @@ use Rattle.tag.specs.declared.Live.{Live}
 use Rattle.tag.specs.declared.Power.the-variants as power
 use Rattle.tag.specs.declared.Session.{Session}
 use Rattle.tag.specs.declared.Answer.{Answer}
+use Rattle.tag.specs.declared.Answer.the-variants as answer
 use Rattle.tag.specs.declared.Outcome.{Outcome}
 use Rattle.tag.specs.Session.{offSession}
-use Rattle.tag.specs.Result.{Result}
+use Rattle.tag.specs.Result.{Result, result}
 use Rattle.tag.specs.Commands.{asksOf, linkOf, isSecured, wrongCommand, breaks, codeOf, used, uncovered, placeOf, stateAfter, replyAfter, wordsAfter}
 use Rattle.tag.specs.Table.{fits, movedTo}
 
@@ -143,16 +144,26 @@ doneEnd l w m room s r st ss =
 abbrev pub neededFor : ℕ → ℕ
 neededFor c = cond (eqb c 0) 0 (3 * c + 2)
 
--- by the error code
-abbrev pub byCode : Code → Live → ℕ → List ℕ → List ℕ → ℕ → Reply → State → List Store → Result
-byCode code.Nothing l w m room s r st ss = doneEnd l w m room s r st ss
-byCode (code.Error e) l w m room s r st ss = errorEnd l m room e
+-- an order that no refusal stops
+unfoldable pub actOf : Live → Layout → List ℕ → List ℕ → ℕ → List ℕ → ℕ → Order → Result
+actOf l y m f fresh room s o =
+    let k = linkOf (l .state) in
+    doneEnd l (y .work .at) m room s (replyAfter y fresh k o) (stateAfter y m fresh (l .state) o) (wordsAfter y m k f o)
+
+-- by its error code
+abbrev pub byCode : Code → Live → Layout → List ℕ → List ℕ → ℕ → List ℕ → ℕ → Order → Result
+byCode code.Nothing l y m f fresh room s o = actOf l y m f fresh room s o
+byCode (code.Error e) l y m f fresh room s o = errorEnd l m room e
+
+abbrev pub orderOf : Live → Layout → List ℕ → List ℕ → ℕ → List ℕ → ℕ → Order → Result
+orderOf l y m f fresh room s o = byCode (codeOf y m (isSecured (l .state)) (linkOf (l .state)) f o) l y m f fresh room s o
+
+abbrev pub droppedWith : Live → Outcome
+droppedWith l = record { answer = answer.Password; session = movedTo l state.Arbitrate; reply = 0; stores = 0; value = 0 }
 
 -- a command whose frame is whole
 unfoldable pub commandOf : Live → Layout → List ℕ → List ℕ → ℕ → List ℕ → ℕ → Command → Result
 commandOf l y m f fresh room s c =
     let k = linkOf (l .state) in
     cond (wrongCommand (l .state) c) (kept 9 l m room)
-    (cond (breaks y m k (k .half) (asksOf (c .order) .part))
-    (record { number = 12; session = movedTo l state.Arbitrate; reply = 0; stores = 0; value = 0; image = m; room = room })
-    (byCode (codeOf y m (isSecured (l .state)) k f (c .order)) l (y .work .at) m room s (replyAfter y fresh k (c .order)) (stateAfter y m fresh (l .state) (c .order)) (wordsAfter y m k f (c .order))))
+    (cond (breaks y m k (k .half) (asksOf (c .order) .part)) (result (droppedWith l) m room) (orderOf l y m f fresh room s (c .order)))

@@ -8,7 +8,8 @@ ghost use Rattle.changes.specs.Changes.{Makes, wordsOf};
 ghost use Rattle.image.specs.Rules.{Good};
 ghost use Rattle.tag.specs.Table.{movedTo};
 ghost use Rattle.tag.specs.Result.{result};
-ghost use Rattle.tag.specs.Steps.{Placed, refusedWith, errorEnd, doneEnd, neededFor, commandOf};
+ghost use Rattle.tag.specs.Steps.{Placed, refusedWith, droppedWith, errorEnd, doneEnd, neededFor, actOf, orderOf, commandOf};
+ghost use Rattle.tag.specs.Commands.{codeOf, linkOf, isSecured};
 use crate::Answer;
 use crate::Live;
 use crate::Outcome;
@@ -20,6 +21,7 @@ use crate::acting;
 use crate::orders;
 use crate::starting;
 use frames::Command;
+use frames::Order;
 use image::Layout;
 use replies::Reply;
 use rights::Code;
@@ -117,4 +119,93 @@ fn give_done(
         stores: made,
         value: 0,
     }
+}
+
+// What an order does that no refusal stops.
+fn act(
+    l: Live,
+    y: Layout,
+    order: Order,
+    image: &mut [u8],
+    frame: &[u8],
+    fresh: u16,
+    room: &mut [u8],
+    s: usize,
+) -> Outcome
+    requires { ⌜ Good y (now image) ⌝ }
+    requires { ⌜ Placed order ⌝ }
+    requires { ⌜ codeOf y (now image) (isSecured (l .state)) (linkOf (l .state)) (now frame) order ≡ Code.Nothing ⌝ }
+    ensures { λ r. ⌜ result r (now (image .exit)) (now (room .exit)) ≡ actOf l y (now (image .entry)) (now (frame .entry)) fresh (now (room .entry)) s order ⌝ }
+{
+    let state = l.state;
+    let k = orders::link_of(state);
+    let plan = Plan {
+        state: orders::state_after(image, y, fresh, state, order),
+        reply: acting::reply_after(y, fresh, k, order),
+        change: acting::change_after(image, y, k, order),
+    };
+    give_done(l, plan, image, y.work.at as usize, frame, room, s)
+}
+
+// The password is wrong, or its halves are broken.
+fn dropped(l: Live) -> Outcome
+    ensures { λ r. ⌜ r ≡ droppedWith l ⌝ }
+{
+    Outcome {
+        answer: Answer::Password,
+        session: moved(l, State::Arbitrate),
+        reply: 0,
+        stores: 0,
+        value: 0,
+    }
+}
+
+// An order, by its error code.
+fn by_code(
+    l: Live,
+    y: Layout,
+    order: Order,
+    image: &mut [u8],
+    frame: &[u8],
+    fresh: u16,
+    room: &mut [u8],
+    s: usize,
+) -> Outcome
+    requires { ⌜ Good y (now image) ⌝ }
+    requires { ⌜ Placed order ⌝ }
+    ensures { λ r. ⌜ result r (now (image .exit)) (now (room .exit)) ≡ orderOf l y (now (image .entry)) (now (frame .entry)) fresh (now (room .entry)) s order ⌝ }
+{
+    let state = l.state;
+    let k = orders::link_of(state);
+    match acting::code_of(image, y, orders::is_secured(state), k, frame, order) {
+        Code::Error(e) => give_error(l, e, image, room),
+        Code::Nothing => act(l, y, order, image, frame, fresh, room, s),
+    }
+}
+
+// A command whose frame is whole.
+pub fn command(
+    l: Live,
+    y: Layout,
+    c: Command,
+    image: &mut [u8],
+    frame: &[u8],
+    fresh: u16,
+    room: &mut [u8],
+    s: usize,
+) -> Outcome
+    requires { ⌜ Good y (now image) ⌝ }
+    requires { ⌜ Placed (c .order) ⌝ }
+    ensures { λ r. ⌜ result r (now (image .exit)) (now (room .exit)) ≡ commandOf l y (now (image .entry)) (now (frame .entry)) fresh (now (room .entry)) s c ⌝ }
+{
+    let state = l.state;
+    if orders::is_wrong(state, c) {
+        return refused(l, Answer::Wrong);
+    }
+    let order = c.order;
+    let part = orders::asks_of(order).part;
+    if orders::breaks(image, y, orders::link_of(state), part) {
+        return dropped(l);
+    }
+    by_code(l, y, order, image, frame, fresh, room, s)
 }

@@ -33,7 +33,6 @@ bit-count-requires c κs = search needs
 add-if1 : tie.Need-add-if1
 add-if1 c = record { fits = omega (arith, c .bit-count .ensures .1) }
 
-
 -- src/answering.rt:105:9
 refused-requires : tie.Need-refused-requires
 refused-requires c κs = search needs
@@ -43,7 +42,6 @@ returns : tie.Need-returns
 unfolding doneEnd
 returns c = rw (c .refused .ensures) (simp (← c .before .before .bit-count .ensures .0, lt-ltb _ _ (c .before .if1 .taken)))
 
-
 -- src/answering.rt:107:19
 count-requires : tie.Need-count-requires
 count-requires c κs = search needs
@@ -51,7 +49,6 @@ count-requires c κs = search needs
 -- src/answering.rt:107:12
 needed-requires : tie.Need-needed-requires
 needed-requires c κs = rw (c .count .ensures) (few-words _ _ (c .before .before .before .before .before .before .args .plan .change) (c .before .before .before .before .before .before .pre .0))
-
 
 -- src/answering.rt:108:13
 make-requires : tie.Need-make-requires
@@ -71,12 +68,11 @@ unfolding doneEnd
 returns-2 c = let a = c .before .before .before .before .before .before .before .before .before .before .before .before .before .args in
     let ss = wordsOf (now (a .image)) (now (a .frame)) (a .plan .change) in
     let n : length (changeStores (a .work) ss) ≡ c .before .before .before .before .before .before .needed .result =
-        change-needs (a .work) ss ∙ ap neededFor (words-count (now (a .image)) (now (a .frame)) (a .plan .change) ∙ sym (c .before .before .before .before .before .before .before .count .ensures)) ∙ sym (c .before .before .before .before .before .before .needed .ensures .0) in
+    change-needs (a .work) ss ∙ ap neededFor (words-count (now (a .image)) (now (a .frame)) (a .plan .change) ∙ sym (c .before .before .before .before .before .before .before .count .ensures)) ∙ sym (c .before .before .before .before .before .before .needed .ensures .0) in
     let p = c .before .before .before .make .ensures in
     let l : a .s < length (changeStores (a .work) ss) = omega (arith, n, c .before .before .before .before .before .if2 .taken) in
     let k : c .before .before .before .make .result ≡ a .s = omega (arith, p .made, l) in
     rw (c .stopped .ensures, k, p .image) (simp (← c .before .before .before .before .before .before .before .before .before .bit-count .ensures .0, le-ltb _ _ (c .before .before .before .before .before .before .before .before .if1 .left), lt-ltb _ _ l))
-
 
 -- src/answering.rt:111:5
 put-requires : tie.Need-put-requires
@@ -104,13 +100,12 @@ unfolding doneEnd
 returns-3 c = let a = c .before .before .before .before .before .before .before .before .before .before .before .before .before .before .before .before .before .before .args in
     let ss = wordsOf (now (a .image)) (now (a .frame)) (a .plan .change) in
     let n : length (changeStores (a .work) ss) ≡ c .before .before .before .before .before .before .before .before .before .before .before .needed .result =
-        change-needs (a .work) ss ∙ ap neededFor (words-count (now (a .image)) (now (a .frame)) (a .plan .change) ∙ sym (c .before .before .before .before .before .before .before .before .before .before .before .before .count .ensures)) ∙ sym (c .before .before .before .before .before .before .before .before .before .before .before .needed .ensures .0) in
+    change-needs (a .work) ss ∙ ap neededFor (words-count (now (a .image)) (now (a .frame)) (a .plan .change) ∙ sym (c .before .before .before .before .before .before .before .before .before .before .before .before .count .ensures)) ∙ sym (c .before .before .before .before .before .before .before .before .before .before .before .needed .ensures .0) in
     let p = c .before .before .before .make2 .ensures in
     let l : length (changeStores (a .work) ss) ≤ a .s = omega (arith, n, c .before .before .before .before .before .before .before .before .before .before .if2 .left) in
     let k : c .before .before .before .make2 .result ≡ length (changeStores (a .work) ss) = omega (arith, p .made, l) in
     let e : c .before .before .before .make2 .last .0 ≡ after (now (a .image)) (changeStores (a .work) ss) = p .image ∙ ap (after (now (a .image))) (take-all _ _ l) in
     rw (c .moved .ensures, k, e, c .before .before .before .before .before .before .before .put .ensures) (simp (← c .before .before .before .before .before .before .before .before .before .before .before .before .before .before .bit-count .ensures .0, le-ltb _ _ (c .before .before .before .before .before .before .before .before .before .before .before .before .before .if1 .left), le-ltb _ _ l))
-
 
 pub give-done-spec : {M : Type 1} → statement M
 give-done-spec =

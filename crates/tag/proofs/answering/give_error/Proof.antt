@@ -24,7 +24,6 @@ returns : tie.Need-returns
 unfolding errorEnd
 returns c = rw (c .refused .ensures) (simp (lt-ltb _ _ (c .before .if1 .taken)))
 
-
 -- src/answering.rt:76:5
 put-requires : tie.Need-put-requires
 put-requires c κs = search needs
@@ -45,7 +44,6 @@ same-length c = search needs
 returns-2 : tie.Need-returns-2
 unfolding errorEnd
 returns-2 c = rw (c .moved .ensures, c .before .used .ensures, c .before .before .before .before .put .ensures, c .before .before .before .before .before .before .before .link-of .ensures) (simp (le-ltb _ _ (c .before .before .before .before .before .before .if1 .left)))
-
 
 pub give-error-spec : {M : Type 1} → statement M
 give-error-spec =

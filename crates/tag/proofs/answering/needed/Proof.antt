@@ -9,7 +9,6 @@ use Rattle.tag.proofs.answering.needed.Lts as lts
 returns : tie.Need-returns
 returns c = (rw (eq-eqb _ _ (c .if1 .taken)), search needs)
 
-
 -- src/answering.rt:64:5
 mul-result : tie.Need-mul-result
 mul-result c = search needs
@@ -21,7 +20,6 @@ add-result c = search needs
 -- src/answering.rt:57:1
 returns-2 : tie.Need-returns-2
 returns-2 c = (rw (ne-eqb _ _ (c .if1 .left)), search needs)
-
 
 pub needed-spec : {M : Type 1} → statement M
 needed-spec = tie.close (tie.spec returns mul-result add-result returns-2)
