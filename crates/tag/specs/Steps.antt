@@ -6,11 +6,14 @@ use lib.Dec.{eqb, ltb}
 use lib.ListN.{length, take}
 use Rattle.bits.specs.Words.{Store, after}
 use Rattle.image.specs.declared.Layout.{Layout}
-use Rattle.image.specs.Content.{lockWord}
+use Rattle.image.specs.Content.{lockWord, countIn}
 use Rattle.frames.specs.declared.Span.{Span}
 use Rattle.frames.specs.declared.Order.{Order}
 use Rattle.frames.specs.declared.Order.the-variants as order
 use Rattle.frames.specs.declared.Command.{Command}
+use Rattle.frames.specs.declared.Heard.{Heard}
+use Rattle.frames.specs.declared.Heard.the-variants as heard
+use Rattle.frames.specs.Frames.{heardOf, checksumRight}
 use Rattle.replies.specs.declared.Reply.{Reply}
 use Rattle.replies.specs.declared.Reply.the-variants as reply
 use Rattle.replies.specs.Replies.{replyBits, replyLength}
@@ -34,7 +37,7 @@ use Rattle.tag.specs.declared.Answer.the-variants as answer
 use Rattle.tag.specs.declared.Outcome.{Outcome}
 use Rattle.tag.specs.Session.{offSession}
 use Rattle.tag.specs.Result.{Result, result}
-use Rattle.tag.specs.Commands.{asksOf, linkOf, isSecured, wrongCommand, breaks, codeOf, used, uncovered, placeOf, stateAfter, replyAfter, wordsAfter}
+use Rattle.tag.specs.Commands.{asksOf, linkOf, isSecured, isKilled, wrongCommand, breaks, codeOf, used, uncovered, placeOf, stateAfter, replyAfter, wordsAfter}
 use Rattle.tag.specs.Table.{fits, movedTo}
 
 -- an Off session, after so many stores
@@ -167,3 +170,21 @@ commandOf l y m f fresh room s c =
     let k = linkOf (l .state) in
     cond (wrongCommand (l .state) c) (kept 9 l m room)
     (cond (breaks y m k (k .half) (asksOf (c .order) .part)) (result (droppedWith l) m room) (orderOf l y m f fresh room s (c .order)))
+
+-- a session as it was, with an answer
+abbrev pub keptWith : Session → Answer → Outcome
+keptWith s a = record { answer = a; session = s; reply = 0; stores = 0; value = 0 }
+
+-- done without a reply, in another state
+abbrev pub movedWith : Live → State → Outcome
+movedWith l st = record { answer = answer.Done; session = movedTo l st; reply = 0; stores = 0; value = 0 }
+
+-- what was heard, of a session under power on an image with nothing pending
+abbrev pub heardBy : Live → Layout → List ℕ → List ℕ → ℕ → ℕ → List ℕ → ℕ → Heard → Result
+heardBy l y m f n fresh room s heard.Malformed = kept 7 l m room
+heardBy l y m f n fresh room s heard.Nak = cond (isKilled (l .state)) (kept 9 l m room) (result (movedWith l state.Arbitrate) m room)
+heardBy l y m f n fresh room s (heard.Said c) = cond (not (checksumRight f n)) (kept 8 l m room) (commandOf l y m f fresh room s c)
+
+unfoldable pub liveBy : Live → Layout → List ℕ → List ℕ → ℕ → ℕ → List ℕ → ℕ → Result
+liveBy l y m f n fresh room s =
+    cond (not (eqb (countIn y m) 0)) (kept 5 l m room) (cond (l .held) (kept 6 l m room) (heardBy l y m f n fresh room s (heardOf f n)))

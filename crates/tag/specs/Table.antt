@@ -181,3 +181,28 @@ rows i =
 -- the outcome of a frame
 unfoldable pub frameOf : Input → Result
 frameOf i = first (rows i) (replied i 0 (newState i (said i)) (storesOf i))
+
+abbrev pub input : Session → List ℕ → List ℕ → ℕ → ℕ → List ℕ → ℕ → Input
+input session image frame bits fresh room power =
+    record { session = session; image = image; frame = frame; bits = bits; fresh = fresh; room = room; power = power }
+
+-- 3.2: an admission takes Arbitrate to Acknowledged; it has neither image nor room, so its order starts at 5
+abbrev pub isArbitrate : State → Bool
+isArbitrate state.Arbitrate = true
+isArbitrate (state.Acknowledged n) = false
+isArbitrate (state.Open k) = false
+isArbitrate (state.Secured k) = false
+isArbitrate state.Killed = false
+
+abbrev pub answered : ℕ → Session → Result
+answered n session = record { number = n; session = session; reply = 0; stores = 0; value = 0; image = []; room = [] }
+
+unfoldable pub admitOf : Session → ℕ → Result
+admitOf s n =
+    let l = liveOf (s .power) in
+    first
+    ((answered 5 s, isOff (s .power))
+    ∷ (answered 6 s, l .held)
+    ∷ (answered 9 s, not (isArbitrate (l .state)))
+    ∷ [])
+    (answered 0 (movedTo l (state.Acknowledged n)))

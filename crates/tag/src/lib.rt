@@ -2,6 +2,7 @@
 mod acting;
 mod answering;
 mod orders;
+mod radio;
 mod starting;
 
 use changes::Change;

@@ -31,8 +31,6 @@ reply-after-requires c κs = let a = c .before .before .before .before .before .
     let f = now (a .frame) in
     shown (a .y) (now (a .image)) (c .before .before .before .before .before .before .pre .0 .header) (now (a .image)) q (linkOf (a .l .state)) f (a .order) (c .before .before .before .before .before .before .pre .1 .1)
 
-
-
 -- src/answering.rt:145:17
 change-after-requires : tie.Need-change-after-requires
 change-after-requires c κs = search needs
@@ -47,8 +45,6 @@ give-done-requires c κs = let a = c .before .before .before .before .before .be
     let q = isSecured (a .l .state) in
     let f = now (a .frame) in
     (rw (c .before .before .before .change-after .ensures, c .before .before .before .before .before .before .before .before .link-of .ensures) (makes (a .y) (now (a .image)) (c .before .before .before .before .before .before .before .before .before .before .before .before .pre .0 .header) (now (a .image)) q (linkOf (a .l .state)) f (a .order) (c .before .before .before .before .before .before .before .before .before .before .before .before .pre .1 .0) (c .before .before .before .before .before .before .before .before .before .before .before .before .pre .1 .1)), rw (c .before .before .before .before .before .reply-after .ensures, c .before .before .before .before .before .before .before .before .link-of .ensures) (reply-end (a .y) (now (a .image)) (c .before .before .before .before .before .before .before .before .before .before .before .before .pre .0 .header) (now (a .image)) q (linkOf (a .l .state)) f (a .fresh) (a .order) (c .before .before .before .before .before .before .before .before .before .before .before .before .pre .1 .1)))
-
-
 
 -- src/answering.rt:125:1
 same-length : tie.Need-same-length
@@ -67,8 +63,6 @@ returns c = let a = c .before .before .before .before .before .before .before .b
     let k = linkOf (a .l .state) in
     let e = rw (c .before .before .before .before .before .before .before .before .change-after .ensures, c .before .before .before .before .before .before .before .before .before .before .reply-after .ensures, c .before .before .before .before .before .before .before .before .before .before .before .state-after .ensures, c .before .before .before .before .before .before .before .before .before .before .before .before .before .link-of .ensures) at (c .before .before .before .before .give-done .ensures) in
     e ∙ ap (λ (ss : List Store). doneEnd (a .l) (a .y .work .at) (now (a .image)) (now (a .room)) (a .s) (replyAfter (a .y) (a .fresh) k (a .order)) (stateAfter (a .y) (now (a .image)) (a .fresh) (a .l .state) (a .order)) ss) (same-words (a .y) (now (a .image)) (c .before .before .before .before .before .before .before .before .before .before .before .before .before .before .before .before .before .pre .0 .header) (now (a .image)) q (linkOf (a .l .state)) f (a .order))
-
-
 
 pub act-spec : {M : Type 1} → statement M
 act-spec =

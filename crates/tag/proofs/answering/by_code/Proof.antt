@@ -38,8 +38,6 @@ enum-told c = search needs
 act-requires : tie.Need-act-requires
 act-requires c κs = (c .before .before .before .before .before .before .before .before .before .before .before .pre .0, (c .before .before .before .before .before .before .before .before .before .before .before .pre .1, sym (rw (c .before .before .before .before .before .is-secured .ensures, c .before .before .before .before .before .before .before .link-of .ensures) at (c .before .before .before .before .code-of .ensures)) ∙ c .before .before .enum-told .given .1))
 
-
-
 -- src/answering.rt:164:1
 same-length : tie.Need-same-length
 same-length c = search needs
@@ -52,8 +50,6 @@ same-length-2 c = search needs
 returns : tie.Need-returns
 returns c = rw (sym (rw (c .before .before .before .before .before .before .before .before .before .is-secured .ensures, c .before .before .before .before .before .before .before .before .before .before .before .link-of .ensures) at (c .before .before .before .before .before .before .before .before .code-of .ensures)) ∙ c .before .before .before .before .before .before .e .given .1) (c .before .before .give-error .ensures)
 
-
-
 -- src/answering.rt:164:1
 same-length-3 : tie.Need-same-length-3
 same-length-3 c = search needs
@@ -65,8 +61,6 @@ same-length-4 c = search needs
 -- src/answering.rt:164:1
 returns-2 : tie.Need-returns-2
 returns-2 c = rw (sym (rw (c .before .before .before .before .before .before .before .before .before .before .is-secured .ensures, c .before .before .before .before .before .before .before .before .before .before .before .before .link-of .ensures) at (c .before .before .before .before .before .before .before .before .before .code-of .ensures)) ∙ c .before .before .before .before .before .before .before .enum-told .given .1) (c .before .before .before .before .act .ensures)
-
-
 
 pub by-code-spec : {M : Type 1} → statement M
 by-code-spec =

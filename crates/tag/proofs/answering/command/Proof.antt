@@ -28,8 +28,6 @@ returns : tie.Need-returns
 returns c = let a = c .before .before .before .before .before .before .args in
     rw (c .refused .ensures) (command-wrong (a .l) (a .y) (now (a .image)) (now (a .frame)) (a .fresh) (now (a .room)) (a .s) (a .c) (sym (c .before .before .is-wrong .ensures) ∙ c .before .if1 .taken))
 
-
-
 -- src/answering.rt:206:16
 asks-of-requires : tie.Need-asks-of-requires
 asks-of-requires c κs = search needs
@@ -55,8 +53,6 @@ returns-2 : tie.Need-returns-2
 returns-2 c = let a = c .before .before .before .before .before .before .before .before .before .before .before .args in
     rw (c .dropped .ensures) (command-broken (a .l) (a .y) (now (a .image)) (now (a .frame)) (a .fresh) (now (a .room)) (a .s) (a .c) (sym (c .before .before .before .before .before .before .before .is-wrong .ensures) ∙ c .before .before .before .before .before .before .if1 .left) (sym (rw (c .before .before .before .link-of .ensures, c .before .before .before .before .before .asks-of .ensures) at (c .before .before .breaks .ensures)) ∙ c .before .if2 .taken))
 
-
-
 -- src/answering.rt:210:5
 by-code-requires : tie.Need-by-code-requires
 by-code-requires c κs = search needs
@@ -73,8 +69,6 @@ same-length-3 c = search needs
 returns-3 : tie.Need-returns-3
 returns-3 c = let a = c .before .before .before .before .before .before .before .before .before .before .before .before .before .before .before .before .before .args in
     c .before .before .before .before .by-code .ensures ∙ command-order (a .l) (a .y) (now (a .image)) (now (a .frame)) (a .fresh) (now (a .room)) (a .s) (a .c) (sym (c .before .before .before .before .before .before .before .before .before .before .before .before .before .is-wrong .ensures) ∙ c .before .before .before .before .before .before .before .before .before .before .before .before .if1 .left) (sym (rw (c .before .before .before .before .before .before .before .before .before .link-of .ensures, c .before .before .before .before .before .before .before .before .before .before .before .asks-of .ensures) at (c .before .before .before .before .before .before .before .before .breaks .ensures)) ∙ c .before .before .before .before .before .before .before .if2 .left)
-
-
 
 pub command-spec : {M : Type 1} → statement M
 command-spec =

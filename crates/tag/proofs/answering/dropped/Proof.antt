@@ -13,7 +13,5 @@ moved-requires c κs = search needs
 returns : tie.Need-returns
 returns c = rw (c .moved .ensures)
 
-
-
 pub dropped-spec : {M : Type 1} → statement M
 dropped-spec = tie.close (tie.spec moved-requires returns)

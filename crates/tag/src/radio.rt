@@ -1,0 +1,158 @@
+// The radio side: admission and frames (RULES 3 and 5).
+ghost use mathlib.Core.Path.{_≡_};
+ghost use mathlib.Core.List.{[]};
+ghost use Rattle.image.specs.Rules.{Good};
+ghost use Rattle.tag.specs.Table.{isArbitrate, input, frameOf, admitOf};
+ghost use Rattle.tag.specs.Result.{result};
+ghost use Rattle.tag.specs.Steps.{keptWith, movedWith, heardBy, liveBy};
+ghost use Rattle.frames.specs.Frames.{heardOf};
+use crate::Answer;
+use crate::Live;
+use crate::Outcome;
+use crate::Power;
+use crate::Session;
+use crate::State;
+use crate::answering;
+use crate::orders;
+use frames::Heard;
+use image::Fit;
+use image::Layout;
+
+// Everything stays.
+fn unmoved(session: Session, answer: Answer) -> Outcome
+    ensures { λ r. ⌜ r ≡ keptWith session answer ⌝ }
+{
+    Outcome {
+        answer: answer,
+        session: session,
+        reply: 0,
+        stores: 0,
+        value: 0,
+    }
+}
+
+fn is_arbitrate(state: State) -> bool
+    ensures { λ r. ⌜ r ≡ isArbitrate state ⌝ }
+{
+    match state {
+        State::Arbitrate => true,
+        State::Acknowledged(_) => false,
+        State::Open(_) => false,
+        State::Secured(_) => false,
+        State::Killed => false,
+    }
+}
+
+// Done without a reply.
+fn silent(l: Live, state: State) -> Outcome
+    ensures { λ r. ⌜ r ≡ movedWith l state ⌝ }
+{
+    Outcome {
+        answer: Answer::Done,
+        session: answering::moved(l, state),
+        reply: 0,
+        stores: 0,
+        value: 0,
+    }
+}
+
+// What a frame says to a session under power.
+fn hearing(
+    l: Live,
+    y: Layout,
+    image: &mut [u8],
+    frame: &[u8],
+    n: usize,
+    fresh: u16,
+    room: &mut [u8],
+    s: usize,
+) -> Outcome
+    requires { ⌜ Good y (now image) ⌝ }
+    ensures { λ r. ⌜ result r (now (image .exit)) (now (room .exit)) ≡ heardBy l y (now (image .entry)) (now (frame .entry)) n fresh (now (room .entry)) s (heardOf (now (frame .entry)) n) ⌝ }
+{
+    match frames::hear(frame, n) {
+        Heard::Malformed => answering::refused(l, Answer::Malformed),
+        Heard::Nak => {
+            let state = l.state;
+            if orders::is_killed(state) {
+                return answering::refused(l, Answer::Wrong);
+            }
+            silent(l, State::Arbitrate)
+        }
+        Heard::Said(c) => {
+            if !frames::checksum_right(frame, n) {
+                return answering::refused(l, Answer::Checksum);
+            }
+            answering::command(l, y, c, image, frame, fresh, room, s)
+        }
+    }
+}
+
+// A session under power on a good image.
+fn listening(
+    l: Live,
+    y: Layout,
+    image: &mut [u8],
+    frame: &[u8],
+    n: usize,
+    fresh: u16,
+    room: &mut [u8],
+    s: usize,
+) -> Outcome
+    requires { ⌜ Good y (now image) ⌝ }
+    ensures { λ r. ⌜ result r (now (image .exit)) (now (room .exit)) ≡ liveBy l y (now (image .entry)) (now (frame .entry)) n fresh (now (room .entry)) s ⌝ }
+{
+    if bits::word(image, y.work.at as usize) != 0 {
+        return answering::refused(l, Answer::NotReady);
+    }
+    if l.held {
+        return answering::refused(l, Answer::Port);
+    }
+    hearing(l, y, image, frame, n, fresh, room, s)
+}
+
+impl Session {
+    // An admission with a 16-bit number.
+    pub fn admit(self, number: u16) -> Outcome
+        ensures { λ r. ⌜ result r [] [] ≡ admitOf self number ⌝ }
+    {
+        let power = self.power;
+        let Power::On(l) = power else {
+            return unmoved(self, Answer::NotReady);
+        };
+        if l.held {
+            return unmoved(self, Answer::Port);
+        }
+        let state = l.state;
+        if !is_arbitrate(state) {
+            return unmoved(self, Answer::Wrong);
+        }
+        silent(l, State::Acknowledged(number))
+    }
+
+    // A radio frame of n bits, with a fresh random word, a reply room and power for s stores.
+    pub fn frame(
+        self,
+        image: &mut [u8],
+        frame: &[u8],
+        n: usize,
+        fresh: u16,
+        room: &mut [u8],
+        s: usize,
+    ) -> Outcome
+        ensures { λ r. ⌜ result r (now (image .exit)) (now (room .exit)) ≡ frameOf (input self (now (image .entry)) (now (frame .entry)) n fresh (now (room .entry)) s) ⌝ }
+    {
+        match image::check(image) {
+            Fit::Short => unmoved(self, Answer::Short),
+            Fit::Header => unmoved(self, Answer::Header),
+            Fit::Content => unmoved(self, Answer::Content),
+            Fit::Good(y) => {
+                let power = self.power;
+                let Power::On(l) = power else {
+                    return unmoved(self, Answer::NotReady);
+                };
+                listening(l, y, image, frame, n, fresh, room, s)
+            }
+        }
+    }
+}
