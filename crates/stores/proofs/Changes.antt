@@ -11,7 +11,7 @@ use lib.ListN.{length, getD, take, drop, length-append, length-drop}
 use lib.Seq.{take-all, take-append-le}
 use borrow.Rule.Slice.PartMut.{putMid}
 use Rattle.bits.specs.Words.{wordAt, Store, store, after}
-use Rattle.bits.specs.Bits.{bitAt, bitsFrom, wordsBits}
+use Rattle.bits.specs.Bits.{bitsFrom, wordsBits}
 use Rattle.bits.proofs.Bits.{bits-drop, words-bits}
 use Rattle.crc.specs.Crc.{crcOf}
 use Rattle.bits.proofs.Stores.{Under, all-append, below-all, after-append, after-avoids, length-after}
@@ -33,7 +33,7 @@ use Rattle.stores.proofs.Pairs.{announced-pairs}
 pub chosen-under : (o : ℕ) (d : List ℕ) (p : ℕ) (z : List ℕ) (n w : ℕ) → o + n ≤ w → Under w (chosen o d p z n)
 chosen-under o d p z zero w h = tt
 chosen-under o d p z (suc n) w h =
-    all-append (λ s. s .at < w) (chosen o d p z n) (chosenAt o d p z n) (chosen-under o d p z n w (omega arith)) (go (eqb (bitAt z n) 0))
+    all-append (λ s. s .at < w) (chosen o d p z n) (chosenAt o d p z n) (chosen-under o d p z n w (omega arith)) (go (eqb (getD z n 0) 0))
   where
     go : (b : Bool) → Under w (cond b (wordFrom o d p n ∷ []) [])
     go true = (omega arith, tt)

@@ -1,19 +1,19 @@
 -- How runs of stores start, go on and end, under a limited power. Assumes nothing.
-use Prim.Native.Nat.{ℕ, zero, suc, _+_, _*_, _-_, _/_, _%_, _^_, _≤_, _<_, min}
+use Prim.Native.Nat.{ℕ, zero, suc, _+_, _*_, _-_, _≤_, _<_, min}
 use mathlib.Core.Path.{_≡_, refl, ap, sym, _∙_}
 use mathlib.Core.Logic.{_≢_}
 use mathlib.Core.Bool.{Bool, true, false, cond}
 use lib.Dec.{eqb}
 use mathlib.Core.List.{List, [], _∷_, _++_, append-assoc, append-nil}
 use native.Mathlib.Numerals.{add-one}
-use native.Mathlib.Nat.{sub-zero, zero-div}
+use native.Mathlib.Nat.{sub-zero}
 use native.Mathlib.Omega.{arith}
 use borrow.Author.Tests.{eq-eqb, ne-eqb}
 use lib.ListN.{length, getD, take, drop, length-append, take-append-drop, length-drop, drop-of-length-le}
 use borrow.Rule.Slice.PartMut.{putMid}
 use lib.Seq.{take-nil, take-all}
 use Rattle.bits.specs.Words.{wordAt, withWord, Store, store, after}
-use Rattle.bits.specs.Bits.{bitAt, fieldAt}
+use Rattle.bits.specs.Bits.{fieldAt}
 use Rattle.bits.specs.Below.{below}
 use Rattle.bits.proofs.Words.{drop-with, take-with, word-with-other}
 use Rattle.bits.proofs.Stores.{length-after}
@@ -112,14 +112,14 @@ length-staged a (x ∷ xs) = rw (length-staged (a + 2) xs) (omega arith)
 
 -- one word staged or passed over, and one more of several
 module _ (o : ℕ) (d : List ℕ) (p : ℕ) (z : List ℕ) (j : ℕ) where
-  pub passed : {b : ℕ} (k s : ℕ) (m : List ℕ) → b ≡ bitAt z j → (b ≡ 0 → ⊥) → StagedTo k (chosenAt o d p z j) s m m (record { left = s; pairs = k })
+  pub passed : {b : ℕ} (k s : ℕ) (m : List ℕ) → b ≡ getD z j 0 → (b ≡ 0 → ⊥) → StagedTo k (chosenAt o d p z j) s m m (record { left = s; pairs = k })
   passed k s m e h =
-      let n : bitAt z j ≡ 0 → ⊥ = λ q. h (e ∙ q) in
-      rw (ne-eqb (bitAt z j) 0 n) (record { ran = ran-none s m; pairs = omega arith })
+      let n : getD z j 0 ≡ 0 → ⊥ = λ q. h (e ∙ q) in
+      rw (ne-eqb (getD z j 0) 0 n) (record { ran = ran-none s m; pairs = omega arith })
 
-  pub chose : {b v : ℕ} (k s l : ℕ) {m n : List ℕ} → b ≡ bitAt z j → b ≡ 0 → v ≡ fieldAt d (p + 16 * j) 16
+  pub chose : {b v : ℕ} (k s l : ℕ) {m n : List ℕ} → b ≡ getD z j 0 → b ≡ 0 → v ≡ fieldAt d (p + 16 * j) 16
       → Ran (staged (1 + 2 * k) (store (o + j) v ∷ [])) s m n l → StagedTo k (chosenAt o d p z j) s m n (record { left = l; pairs = k + 1 })
-  chose k s l e h q r = rw (eq-eqb (bitAt z j) 0 (sym e ∙ h)) (record { ran = rw q at r; pairs = refl })
+  chose k s l e h q r = rw (eq-eqb (getD z j 0) 0 (sym e ∙ h)) (record { ran = rw q at r; pairs = refl })
 
   pub chose-more : {s k l k₁ l₁ : ℕ} {a b c : List ℕ} → StagedTo 0 (chosen o d p z j) s a b (record { left = l; pairs = k })
       → StagedTo k (chosenAt o d p z j) l b c (record { left = l₁; pairs = k₁ }) → StagedTo 0 (chosen o d p z (j + 1)) s a c (record { left = l₁; pairs = k₁ })
@@ -132,7 +132,7 @@ module _ (o : ℕ) (d : List ℕ) (p : ℕ) (z : List ℕ) (j : ℕ) where
       })
 
   pub chosen-few : length (chosenAt o d p z j) ≤ 1
-  chosen-few = go (eqb (bitAt z j) 0)
+  chosen-few = go (eqb (getD z j 0) 0)
     where
       go : (b : Bool) → length (cond b (wordFrom o d p j ∷ []) []) ≤ 1
       go true = omega arith
@@ -166,13 +166,10 @@ chosen-most o d p z zero = omega arith
 chosen-most o d p z (suc n) = simp length-append (omega (arith, chosen-most o d p z n, chosen-few o d p z n))
 
 -- where none is passed over
-pub chosen-all : (o : ℕ) (d : List ℕ) (p : ℕ) (z : List ℕ) (n : ℕ) → ((j : ℕ) → bitAt z j ≡ 0) → chosen o d p z n ≡ below (wordFrom o d p) n
+pub chosen-all : (o : ℕ) (d : List ℕ) (p : ℕ) (z : List ℕ) (n : ℕ) → ((j : ℕ) → getD z j 0 ≡ 0) → chosen o d p z n ≡ below (wordFrom o d p) n
 chosen-all o d p z zero h = refl
-chosen-all o d p z (suc n) h = rw (chosen-all o d p z n h, eq-eqb (bitAt z n) 0 (h n))
+chosen-all o d p z (suc n) h = rw (chosen-all o d p z n h, eq-eqb (getD z n 0) 0 (h n))
 
-pub no-bit : (j : ℕ) → bitAt (0 ∷ []) j ≡ 0
-no-bit j = go (j / 8)
-  where
-    go : (k : ℕ) → getD (0 ∷ []) k 0 / 2 ^ (7 - j % 8) % 2 ≡ 0
-    go zero = ap (λ (x : ℕ). x % 2) (zero-div (2 ^ (7 - j % 8)))
-    go (suc k) = ap (λ (x : ℕ). x % 2) (zero-div (2 ^ (7 - j % 8)))
+pub no-byte : (j : ℕ) → _≡_ {A = ℕ} (getD (0 ∷ []) j 0) 0
+no-byte zero = refl
+no-byte (suc j) = refl

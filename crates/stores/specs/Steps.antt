@@ -4,9 +4,9 @@ use mathlib.Core.Path.{_≡_}
 use mathlib.Core.Bool.{Bool, true, false, cond}
 use mathlib.Core.List.{List, [], _∷_, _++_}
 use lib.Dec.{eqb}
-use lib.ListN.{length, take}
+use lib.ListN.{length, getD, take}
 use Rattle.bits.specs.Words.{wordAt, Store, store, after}
-use Rattle.bits.specs.Bits.{bitAt, fieldAt}
+use Rattle.bits.specs.Bits.{fieldAt}
 use Rattle.bits.specs.Below.{below}
 use Rattle.stores.specs.Stores.{staged}
 use Rattle.stores.specs.declared.Staged.{Staged}
@@ -28,12 +28,12 @@ pairIn w m j = let a = w + 1 + 2 * j in store (wordAt m a) (wordAt m (a + 1))
 abbrev pub pairsAt : ℕ → List ℕ → ℕ → List Store
 pairsAt w m n = below (pairIn w m) n
 
--- word j of those that stand in d from bit p on, for word o + j; none where bit j of z is set
+-- word j of those that stand in d from bit p on, for word o + j; none where byte j of z is not 0
 abbrev pub wordFrom : ℕ → List ℕ → ℕ → ℕ → Store
 wordFrom o d p j = store (o + j) (fieldAt d (p + 16 * j) 16)
 
 abbrev pub chosenAt : ℕ → List ℕ → ℕ → List ℕ → ℕ → List Store
-chosenAt o d p z j = cond (eqb (bitAt z j) 0) (wordFrom o d p j ∷ []) []
+chosenAt o d p z j = cond (eqb (getD z j 0) 0) (wordFrom o d p j ∷ []) []
 
 -- the words that a change takes, of n
 abbrev pub chosen : ℕ → List ℕ → ℕ → List ℕ → ℕ → List Store

@@ -51,7 +51,7 @@ fn stage_word(
     requires { ⌜ (k < 256) × (at + j < 65536) × (from < 2 ^ 61) ⌝ }
     ensures { λ r. ⌜ StagedTo k (chosenAt at (now (words .entry)) from (now (skip .entry)) j) left (now (area .entry)) (now (area .exit)) r ⌝ }
 {
-    if bits::bit(skip, j) != 0 {
+    if bits::byte(skip, j) != 0 {
         return Staged {
             left: left,
             pairs: k,

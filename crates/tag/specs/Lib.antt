@@ -3,4 +3,5 @@ pub mod Result
 pub mod Power
 pub mod Commands
 pub mod Table
+pub mod Port
 pub mod Steps

@@ -1,5 +1,5 @@
 -- `changes::store_bits` meets its contract: none is passed over. Assumes nothing.
-use Rattle.stores.proofs.Runs.{chosen-all, no-bit}
+use Rattle.stores.proofs.Runs.{chosen-all, no-byte}
 use mathlib.Core.List.{[], _∷_}
 use denote.Ref.{now}
 use borrow.Author.Needs.{needs}
@@ -8,7 +8,7 @@ use Rattle.changes.proofs.store_bits.Tie as tie
 
 returns : tie.Need-returns
 returns c = let a = c .before .before .before .before .before .before .before .args in
-    rw (chosen-all (a .at) (now (a .words)) (a .from) (0 ∷ []) (a .n) no-bit) at (c .before .before .change .ensures)
+    rw (chosen-all (a .at) (now (a .words)) (a .from) (0 ∷ []) (a .n) no-byte) at (c .before .before .change .ensures)
 
 pub store-bits-spec : {M : Type 1} → statement M
 store-bits-spec = tie.close

@@ -8,11 +8,11 @@ use Rattle.stores.proofs.stage_word.Tie as tie
 
 returns : tie.Need-returns
 returns c = let a = c .before .before .before .before .before .args in
-    passed (a .at) (now (a .words)) (a .from) (now (a .skip)) (a .j) _ _ _ (c .before .bit .ensures .0) (c .if1 .taken)
+    passed (a .at) (now (a .words)) (a .from) (now (a .skip)) (a .j) _ _ _ (c .before .byte .ensures) (c .if1 .taken)
 
 returns-2 : tie.Need-returns-2
 returns-2 c = let a = c .before .before .before .before .before .before .before .before .before .before .args in
-    chose (a .at) (now (a .words)) (a .from) (now (a .skip)) (a .j) _ _ _ (c .before .before .before .before .before .before .bit .ensures .0) (omega (arith, c .before .before .before .before .before .if1 .left)) (c .before .before .before .before .field .ensures .0) (c .before .before .put-pair .ensures)
+    chose (a .at) (now (a .words)) (a .from) (now (a .skip)) (a .j) _ _ _ (c .before .before .before .before .before .before .byte .ensures) (omega (arith, c .before .before .before .before .before .if1 .left)) (c .before .before .before .before .field .ensures .0) (c .before .before .put-pair .ensures)
 
 pub stage-word-spec : {M : Type 1} → statement M
 stage-word-spec =

@@ -26,7 +26,6 @@ returns : tie.Need-returns
 unfolding admitOf
 returns c = rw (c .unmoved .ensures, c .before .enum-told .given .1)
 
-
 -- src/radio.rt:124:13
 unmoved-requires-2 : tie.Need-unmoved-requires-2
 unmoved-requires-2 c κs = search needs
@@ -35,7 +34,6 @@ unmoved-requires-2 c κs = search needs
 returns-2 : tie.Need-returns-2
 unfolding admitOf
 returns-2 c = rw (c .unmoved2 .ensures, c .before .before .before .power .given .1, c .before .if1 .taken)
-
 
 -- src/radio.rt:127:13
 is-arbitrate-requires : tie.Need-is-arbitrate-requires
@@ -50,7 +48,6 @@ returns-3 : tie.Need-returns-3
 unfolding admitOf
 returns-3 c = rw (c .unmoved3 .ensures, c .before .before .before .before .before .power .given .1, c .before .before .before .if1 .left, ← c .before .before .is-arbitrate .ensures, not-true (c .before .before .is-arbitrate .result) (c .before .if2 .taken))
 
-
 -- src/radio.rt:130:9
 silent-requires : tie.Need-silent-requires
 silent-requires c κs = search needs
@@ -59,7 +56,6 @@ silent-requires c κs = search needs
 returns-4 : tie.Need-returns-4
 unfolding admitOf
 returns-4 c = rw (c .silent .ensures, c .before .before .before .before .before .power .given .1, c .before .before .before .if1 .left, ← c .before .before .is-arbitrate .ensures, not-false (c .before .before .is-arbitrate .result) (c .before .if2 .left))
-
 
 pub admit-spec : {M : Type 1} → statement M
 admit-spec =

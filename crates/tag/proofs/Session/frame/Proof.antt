@@ -73,12 +73,10 @@ returns c = let a = c .before .before .before .before .before .before .before .b
     let e : a .self ≡ offSession = ap (λ (p : Power). record { power = p }) (c .before .enum-told4 .given .1) in
     rw (c .unmoved4 .ensures) (subst (λ (v : Session). everything (input v (now (a .image)) (now (a .frame)) (a .n) (a .fresh) (now (a .room)) (a .s)) 5 ≡ frameOf (input v (now (a .image)) (now (a .frame)) (a .n) (a .fresh) (now (a .room)) (a .s))) (sym e) (frame-off (now (a .image)) (now (a .frame)) (a .n) (a .fresh) (now (a .room)) (a .s) (h .0) (h .1) (h .2)))
 
-
 -- src/radio.rt:142:17
 listening-requires : tie.Need-listening-requires
 listening-requires c κs = let a = c .before .before .before .before .before .before .before .before .before .before .before .before .before .args in
     check-good (now (a .image)) _ (sym (rw (c .before .before .before .before .before .before .y .given .1) at (c .before .before .before .before .before .before .before .before .check .ensures)))
-
 
 -- src/radio.rt:122:5
 same-length-2 : tie.Need-same-length-2
@@ -88,7 +86,6 @@ same-length-2 c = search needs
 returns-2 : tie.Need-returns-2
 returns-2 c = let a = c .before .before .before .before .before .before .before .before .args in
     rw (c .unmoved .ensures) (frame-short (a .self) (now (a .image)) (now (a .frame)) (a .n) (a .fresh) (now (a .room)) (a .s) (check-1 (now (a .image)) (rw (c .before .enum-told .given .1) at (c .before .before .before .check .ensures))))
-
 
 -- src/radio.rt:122:5
 same-length-3 : tie.Need-same-length-3
@@ -100,7 +97,6 @@ returns-3 c = let a = c .before .before .before .before .before .before .before 
     let h = check-2 (now (a .image)) (rw (c .before .enum-told2 .given .1) at (c .before .before .before .check .ensures)) in
     rw (c .unmoved2 .ensures) (frame-header (a .self) (now (a .image)) (now (a .frame)) (a .n) (a .fresh) (now (a .room)) (a .s) (h .0) (h .1))
 
-
 -- src/radio.rt:122:5
 same-length-4 : tie.Need-same-length-4
 same-length-4 c = search needs
@@ -110,7 +106,6 @@ returns-4 : tie.Need-returns-4
 returns-4 c = let a = c .before .before .before .before .before .before .before .before .args in
     let h = check-3 (now (a .image)) (rw (c .before .enum-told3 .given .1) at (c .before .before .before .check .ensures)) in
     rw (c .unmoved3 .ensures) (frame-content (a .self) (now (a .image)) (now (a .frame)) (a .n) (a .fresh) (now (a .room)) (a .s) (h .0) (h .1) (h .2))
-
 
 -- src/radio.rt:122:5
 same-length-5 : tie.Need-same-length-5
@@ -132,8 +127,6 @@ returns-5 c = let a = c .before .before .before .before .before .before .before 
     ∙ ap (λ (z : Layout). liveBy l z (now (a .image)) (now (a .frame)) (a .n) (a .fresh) (now (a .room)) (a .s)) y
     ∙ sym (frame-live l (now (a .image)) (now (a .frame)) (a .n) (a .fresh) (now (a .room)) (a .s) (h .0) (h .1) (h .2))
     ∙ ap (λ (v : Session). frameOf (input v (now (a .image)) (now (a .frame)) (a .n) (a .fresh) (now (a .room)) (a .s))) (sym e)
-
-
 
 pub frame-spec : {M : Type 1} → statement M
 frame-spec =

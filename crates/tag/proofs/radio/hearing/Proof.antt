@@ -46,7 +46,6 @@ returns : tie.Need-returns
 returns c = let a = c .before .before .before .before .before .before .before .before .before .args in
     rw (c .refused2 .ensures) (heard-nak (a .l) (a .y) (now (a .image)) (now (a .frame)) (a .n) (a .fresh) (now (a .room)) (a .s) true (sym (c .before .before .before .before .before .hear .ensures) ∙ c .before .before .before .enum-told2 .given .1) (sym (c .before .before .is-killed .ensures) ∙ c .before .if1 .taken))
 
-
 -- src/radio.rt:68:13
 silent-requires : tie.Need-silent-requires
 silent-requires c κs = search needs
@@ -61,7 +60,6 @@ checksum-right-requires c κs = let a = c .before .before .before .before .befor
     let b = said-bounds (now (a .frame)) (a .n) _ (sym (c .before .before .before .hear .ensures) ∙ c .before .c .given .1) in
     (omega (arith, b .0), b .1)
 
-
 -- src/radio.rt:72:17
 refused-requires-3 : tie.Need-refused-requires-3
 refused-requires-3 c κs = search needs
@@ -71,24 +69,20 @@ returns-2 : tie.Need-returns-2
 returns-2 c = let a = c .before .before .before .before .before .before .before .before .before .before .args in
     rw (c .refused3 .ensures) (heard-said (a .l) (a .y) (now (a .image)) (now (a .frame)) (a .n) (a .fresh) (now (a .room)) (a .s) false _ (sym (c .before .before .before .before .before .before .hear .ensures) ∙ c .before .before .before .before .c .given .1) (sym (c .before .before .checksum-right .ensures) ∙ not-true (c .before .before .checksum-right .result) (c .before .if2 .taken)))
 
-
 -- src/radio.rt:74:13
 command-requires : tie.Need-command-requires
 command-requires c κs = let a = c .before .before .before .before .before .before .before .before .before .before .before .args in
     (c .before .before .before .before .before .before .before .before .before .before .before .pre, placed (now (a .frame)) (a .n) _ (sym (c .before .before .before .before .before .before .before .hear .ensures) ∙ c .before .before .before .before .before .c .given .1))
-
 
 -- src/radio.rt:48:1
 returns-3 : tie.Need-returns-3
 returns-3 c = let a = c .before .before .before .before .before .before .before .args in
     rw (c .refused .ensures) (heard-malformed (a .l) (a .y) (now (a .image)) (now (a .frame)) (a .n) (a .fresh) (now (a .room)) (a .s) (sym (c .before .before .before .hear .ensures) ∙ c .before .enum-told .given .1))
 
-
 -- src/radio.rt:48:1
 returns-4 : tie.Need-returns-4
 returns-4 c = let a = c .before .before .before .before .before .before .before .before .before .args in
     rw (c .silent .ensures) (heard-nak (a .l) (a .y) (now (a .image)) (now (a .frame)) (a .n) (a .fresh) (now (a .room)) (a .s) false (sym (c .before .before .before .before .before .hear .ensures) ∙ c .before .before .before .enum-told2 .given .1) (sym (c .before .before .is-killed .ensures) ∙ c .before .if1 .left))
-
 
 -- src/radio.rt:48:1
 same-length : tie.Need-same-length
@@ -102,7 +96,6 @@ same-length-2 c = search needs
 returns-5 : tie.Need-returns-5
 returns-5 c = let a = c .before .before .before .before .before .before .before .before .before .before .before .before .before .before .before .before .args in
     c .before .before .before .before .command .ensures ∙ heard-said (a .l) (a .y) (now (a .image)) (now (a .frame)) (a .n) (a .fresh) (now (a .room)) (a .s) true _ (sym (c .before .before .before .before .before .before .before .before .before .before .before .before .hear .ensures) ∙ c .before .before .before .before .before .before .before .before .before .before .c .given .1) (sym (c .before .before .before .before .before .before .before .before .checksum-right .ensures) ∙ not-false (c .before .before .before .before .before .before .before .before .checksum-right .result) (c .before .before .before .before .before .before .before .if2 .left))
-
 
 pub hearing-spec : {M : Type 1} → statement M
 hearing-spec =

@@ -32,7 +32,6 @@ returns : tie.Need-returns
 returns c = let a = c .before .before .before .before .before .before .before .before .args in
     rw (c .refused .ensures) (live-pending (a .l) (a .y) (now (a .image)) (now (a .frame)) (a .n) (a .fresh) (now (a .room)) (a .s) (λ e. c .before .if1 .taken (c .before .before .word .ensures ∙ e)))
 
-
 -- src/radio.rt:97:9
 refused-requires-2 : tie.Need-refused-requires-2
 refused-requires-2 c κs = search needs
@@ -45,7 +44,6 @@ same-length-2 c = search needs
 returns-2 : tie.Need-returns-2
 returns-2 c = let a = c .before .before .before .before .before .before .before .before .before .args in
     rw (c .refused2 .ensures) (live-held (a .l) (a .y) (now (a .image)) (now (a .frame)) (a .n) (a .fresh) (now (a .room)) (a .s) (sym (c .before .before .before .word .ensures) ∙ omega (arith, c .before .before .if1 .left)) (c .before .if2 .taken))
-
 
 -- src/radio.rt:99:5
 hearing-requires : tie.Need-hearing-requires
@@ -63,7 +61,6 @@ same-length-4 c = search needs
 returns-3 : tie.Need-returns-3
 returns-3 c = let a = c .before .before .before .before .before .before .before .before .before .before .before .before .before .before .before .args in
     c .before .before .before .before .hearing .ensures ∙ live-hears (a .l) (a .y) (now (a .image)) (now (a .frame)) (a .n) (a .fresh) (now (a .room)) (a .s) (sym (c .before .before .before .before .before .before .before .before .before .word .ensures) ∙ omega (arith, c .before .before .before .before .before .before .before .before .if1 .left)) (c .before .before .before .before .before .before .before .if2 .left)
-
 
 pub listening-spec : {M : Type 1} → statement M
 listening-spec =

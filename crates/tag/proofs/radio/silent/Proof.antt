@@ -13,6 +13,5 @@ moved-requires c κs = search needs
 returns : tie.Need-returns
 returns c = rw (c .moved .ensures)
 
-
 pub silent-spec : {M : Type 1} → statement M
 silent-spec = tie.close (tie.spec moved-requires returns)

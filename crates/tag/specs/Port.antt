@@ -1,0 +1,150 @@
+-- The SPI port (RULES 4): asking, releasing, the register, reads and writes of USER, each with its answers in order. Assumes nothing.
+use Prim.Native.Nat.{ℕ, zero, suc, _+_, _*_, _/_, _%_}
+use mathlib.Core.Bool.{Bool, true, false, cond, not, _&&_, _||_}
+use mathlib.Core.List.{List, [], _∷_, _++_}
+use lib.Dec.{eqb, ltb}
+use lib.ListN.{length, take, replicate}
+use Rattle.bits.specs.Words.{wordAt, Store, store, after}
+use Rattle.bits.specs.Bits.{wordsBits}
+use Rattle.bits.specs.Below.{every}
+use Rattle.bits.specs.First.{first}
+use Rattle.image.specs.declared.Layout.{Layout}
+use Rattle.image.specs.Layout.{layoutOf, pairsIn}
+use Rattle.image.specs.Content.{countIn, lockWord}
+use Rattle.image.specs.Check.{short, headerWrong, contentBroken}
+use Rattle.rights.specs.Rights.{pwdBit, blockOpen}
+use Rattle.replies.specs.Pack.{packed}
+use Rattle.stores.specs.Stores.{changeStores}
+use Rattle.tag.specs.declared.State.{State}
+use Rattle.tag.specs.declared.State.the-variants as state
+use Rattle.tag.specs.declared.Register.{Register}
+use Rattle.tag.specs.declared.Live.{Live}
+use Rattle.tag.specs.declared.Power.the-variants as power
+use Rattle.tag.specs.declared.Session.{Session}
+use Rattle.tag.specs.Session.{offSession}
+use Rattle.tag.specs.Result.{Result}
+use Rattle.tag.specs.Commands.{isKilled, accessWord}
+use Rattle.tag.specs.Table.{isOff, liveOf, answered}
+
+-- a session with its port held or free, or with another register
+abbrev pub heldTo : Live → Bool → Session
+heldTo l b = record { power = power.On (record { state = l .state; held = b; register = l .register }) }
+
+abbrev pub registerTo : Live → Register → Session
+registerTo l r = record { power = power.On (record { state = l .state; held = l .held; register = r }) }
+
+-- 4.1: asking is granted unless the state is Open or Secured or the port is held
+abbrev pub isLinked : State → Bool
+isLinked state.Arbitrate = false
+isLinked (state.Acknowledged n) = false
+isLinked (state.Open k) = true
+isLinked (state.Secured k) = true
+isLinked state.Killed = false
+
+unfoldable pub askOf : Session → Result
+askOf s =
+    let l = liveOf (s .power) in
+    first ((answered 5 s, isOff (s .power)) ∷ (answered 6 s, l .held || isLinked (l .state)) ∷ []) (answered 0 (heldTo l true))
+
+-- 4.7: releasing and reading the register need the port held
+unfoldable pub releaseOf : Session → Result
+releaseOf s =
+    let l = liveOf (s .power) in
+    first ((answered 5 s, isOff (s .power)) ∷ (answered 6 s, not (l .held)) ∷ []) (answered 0 (heldTo l false))
+
+-- 4.5: bit 1, some word wasn't written; bit 0, killed
+abbrev pub bitOf : Bool → ℕ
+bitOf b = cond b 1 0
+
+abbrev pub numberIn : Register → ℕ
+numberIn r = 2 * bitOf (r .unwritten) + bitOf (r .killed)
+
+abbrev pub clear : Register
+clear = record { unwritten = false; killed = false }
+
+-- 4.6: the register as a number, and cleared
+abbrev pub told : Live → Result
+told l =
+    record { number = 0; session = registerTo l clear; reply = 0; stores = 0; value = numberIn (l .register); image = []; room = [] }
+
+unfoldable pub registerOf : Session → Result
+registerOf s =
+    let l = liveOf (s .power) in
+    first ((answered 5 s, isOff (s .power)) ∷ (answered 6 s, not (l .held)) ∷ []) (told l)
+
+-- set bits last
+abbrev pub withKilled : Register → Register
+withKilled r = record { unwritten = r .unwritten; killed = true }
+
+abbrev pub withUnwritten : Bool → Register → Register
+withUnwritten b r = record { unwritten = r .unwritten || b; killed = r .killed }
+
+-- a transfer's answer, session, stores made, image and room
+abbrev pub transferred : ℕ → Session → ℕ → ℕ → List ℕ → List ℕ → Result
+transferred number session reply stores image room =
+    record { number = number; session = session; reply = reply; stores = stores; value = 0; image = image; room = room }
+
+-- the answers before a transfer's own: what each leaves is everything
+abbrev pub refusals : Session → List ℕ → List ℕ → Bool → List (Result × Bool)
+refusals s m room bad =
+    let l = liveOf (s .power) in
+    (transferred 1 s 0 0 m room, short m)
+    ∷ (transferred 2 s 0 0 m room, headerWrong m)
+    ∷ (transferred 3 s 0 0 m room, contentBroken m)
+    ∷ (transferred 5 s 0 0 m room, isOff (s .power) || not (eqb (countIn (layoutOf m) m) 0))
+    ∷ (transferred 6 s 0 0 m room, not (l .held))
+    ∷ (transferred 13 s 0 0 m room, bad)
+    ∷ []
+
+-- count words of USER from word `at` on: none, more than 255, or past its end
+abbrev pub badCount : Layout → ℕ → ℕ → Bool
+badCount y at count = eqb count 0 || ltb 255 count || ltb (y .user .words) (at + count)
+
+-- 4.3 and 4.8: what a read shows: count words, or zeros when Killed
+abbrev pub readBits : Layout → List ℕ → Bool → ℕ → ℕ → List ℕ
+readBits y m killed at count = cond killed (replicate (16 * count) 0) (wordsBits m (y .user .at + at) count)
+
+-- order 1, 2, 3, 5, 6, 13, 4
+unfoldable pub readOf : Session → List ℕ → ℕ → ℕ → List ℕ → Result
+readOf s m at count room =
+    let l = liveOf (s .power) in
+    let y = layoutOf m in
+    let killed = isKilled (l .state) in
+    first (refusals s m room (badCount y at count) ++ ((transferred 4 s 0 0 m room, ltb (length room) (2 * count)) ∷ []))
+    (transferred 0 (registerTo l (cond killed (withKilled (l .register)) (l .register))) (16 * count) 0 m (packed (readBits y m killed at count) room))
+
+-- 4.4: a USER word that the port may write
+abbrev pub portWrites : Layout → List ℕ → ℕ → Bool
+portWrites y m i =
+    eqb (accessWord y m 0) 0 && eqb (accessWord y m 1) 0 && eqb (pwdBit (lockWord y m) 4) 0 && blockOpen y m i
+
+-- those of the n words of d, for USER words from `at` on, that may be written
+abbrev pub writtenWords : Layout → List ℕ → ℕ → List ℕ → ℕ → List Store
+writtenWords y m at d zero = []
+writtenWords y m at d (suc n) =
+    writtenWords y m at d n ++ cond (portWrites y m (at + n)) (store (y .user .at + at + n) (wordAt d n) ∷ []) []
+
+-- odd data, a bad count, or more words than W
+abbrev pub badData : Layout → ℕ → List ℕ → Bool
+badData y at d = not (eqb (length d % 2) 0) || badCount y at (length d / 2) || ltb (pairsIn y) (length d / 2)
+
+-- what a write stores, and whether some word wasn't written; nothing when Killed
+abbrev pub portWords : Layout → List ℕ → Bool → ℕ → List ℕ → List Store
+portWords y m killed at d = cond killed [] (writtenWords y m at d (length d / 2))
+
+abbrev pub someUnwritten : Layout → List ℕ → ℕ → ℕ → Bool
+someUnwritten y m at n = not (every (λ j. portWrites y m (at + j)) n)
+
+-- order 1, 2, 3, 5, 6, 13, 11; a write has no room
+unfoldable pub writeOf : Session → List ℕ → ℕ → List ℕ → ℕ → Result
+writeOf s m at d power =
+    let l = liveOf (s .power) in
+    let y = layoutOf m in
+    let killed = isKilled (l .state) in
+    let stores = changeStores (y .work .at) (portWords y m killed at d) in
+    first
+    (refusals s m [] (badData y at d)
+    ++ ((transferred 11 offSession 0 power (after m (take power stores)) [], ltb power (length stores)) ∷ []))
+    (transferred 0
+    (registerTo l (cond killed (withKilled (l .register)) (withUnwritten (someUnwritten y m at (length d / 2)) (l .register))))
+    0 (length stores) (after m stores) [])
