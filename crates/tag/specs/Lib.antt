@@ -4,4 +4,6 @@ pub mod Power
 pub mod Commands
 pub mod Table
 pub mod Port
+pub mod One
 pub mod Steps
+pub mod Worked

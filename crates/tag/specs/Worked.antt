@@ -1,0 +1,144 @@
+-- Power-up and frames on the worked image, computed (RULES 6.2 and 6.3), and wrong answers that the promises rule out. Assumes nothing.
+use Prim.Native.Nat.{ℕ}
+use mathlib.Core.Path.{_≡_, refl, sym, ap, _∙_}
+use mathlib.Core.Bool.{Bool, true, false}
+use mathlib.Core.List.{List, [], _∷_}
+use native.Mathlib.Omega.{arith}
+use lib.ListN.{replicate, take, length}
+use Rattle.bits.specs.Words.{wordAt, withWord}
+use Rattle.bits.specs.Bits.{fieldAt, bitsOf, wordsBits}
+use Rattle.crc.specs.Crc.{crcOf}
+use Rattle.ebv.specs.Ebv.{pointerAt}
+use Rattle.image.specs.Layout.{layoutOf, headerGood, blocksIn}
+use Rattle.image.specs.Content.{rulesHold, contentGood}
+use Rattle.image.specs.Worked.{worked, pendingOne}
+use Rattle.frames.specs.Frames.{heardOf, checksumRight}
+use Rattle.replies.specs.Pack.{filled, packed}
+use Rattle.replies.specs.Replies.{checked}
+use Rattle.rights.specs.Rights.{readCode, writeCode, lockedTo, lockCode}
+use Rattle.stores.specs.Stores.{powerStores}
+use Rattle.tag.specs.declared.Cover.the-variants as cover
+use Rattle.tag.specs.declared.Half.the-variants as half
+use Rattle.tag.specs.declared.State.{State}
+use Rattle.tag.specs.declared.State.the-variants as state
+use Rattle.tag.specs.declared.Session.{Session}
+use Rattle.tag.specs.Session.{offSession, newSession}
+use Rattle.tag.specs.Result.{Result}
+use Rattle.tag.specs.Power.{poweredTo, started, powerUpOf}
+use Rattle.tag.specs.Table.{input, frameOf}
+
+-- Req_RN with the admission number BEEFh
+unfoldable pub reqRn : List ℕ
+reqRn = 0xC1 ∷ 0xBE ∷ 0xEF ∷ 0x13 ∷ 0x67 ∷ []
+
+-- Write ABCDh to USER 3, covered
+unfoldable pub write3 : List ℕ
+write3 = 0xC3 ∷ 0xC0 ∷ 0xFC ∷ 0x65 ∷ 0xC4 ∷ 0x8D ∷ 0x0C ∷ 0xDE ∷ 0x80 ∷ []
+
+-- Write to USER 15
+unfoldable pub write15 : List ℕ
+write15 = 0xC3 ∷ 0xC3 ∷ 0xD6 ∷ 0x96 ∷ 0x84 ∷ 0x8D ∷ 0x0A ∷ 0x27 ∷ 0x80 ∷ []
+
+-- Write to USER 16
+unfoldable pub write16 : List ℕ
+write16 = 0xC3 ∷ 0xC4 ∷ 0x16 ∷ 0x96 ∷ 0x84 ∷ 0x8D ∷ 0x12 ∷ 0x4F ∷ 0x40 ∷ []
+
+-- Lock: EPC pwd set, USER permalock set again
+unfoldable pub lock10 : List ℕ
+lock10 = 0xC5 ∷ 0x08 ∷ 0x42 ∷ 0x11 ∷ 0x23 ∷ 0x45 ∷ 0x43 ∷ 0x60 ∷ []
+
+-- Lock: USER permalock cleared
+unfoldable pub lock11 : List ℕ
+lock11 = 0xC5 ∷ 0x00 ∷ 0x40 ∷ 0x01 ∷ 0x23 ∷ 0x43 ∷ 0x8F ∷ 0x80 ∷ []
+
+-- Write a PC with L = 2
+unfoldable pub pc2 : List ℕ
+pc2 = 0xC3 ∷ 0x40 ∷ 0x52 ∷ 0x96 ∷ 0x84 ∷ 0x8D ∷ 0x1D ∷ 0xF4 ∷ 0x40 ∷ []
+
+-- Write a PC with L = 3
+unfoldable pub pc3 : List ℕ
+pc3 = 0xC3 ∷ 0x40 ∷ 0x50 ∷ 0x96 ∷ 0x84 ∷ 0x8D ∷ 0x3C ∷ 0x84 ∷ 0x80 ∷ []
+
+-- Read two words of USER from word 2 on
+unfoldable pub readTwo : List ℕ
+readTwo = 0xC2 ∷ 0xC0 ∷ 0x80 ∷ 0x84 ∷ 0x8D ∷ 0x02 ∷ 0x47 ∷ 0x80 ∷ []
+
+-- BlockWrite of 16 words
+unfoldable pub block16 : List ℕ
+block16 = 0xC7 ∷ 0xC0 ∷ 0x04 ∷ 0x00 ∷ 0x00 ∷ 0x00 ∷ 0x00 ∷ 0x40 ∷ 0x00 ∷ 0x80 ∷ 0x00 ∷ 0xC0 ∷ 0x01 ∷ 0x00 ∷ 0x01 ∷ 0x40 ∷ 0x01 ∷ 0x80 ∷ 0x01 ∷ 0xC0 ∷ 0x02 ∷ 0x00 ∷ 0x02 ∷ 0x40 ∷ 0x02 ∷ 0x80 ∷ 0x02 ∷ 0xC0 ∷ 0x03 ∷ 0x00 ∷ 0x03 ∷ 0x40 ∷ 0x03 ∷ 0x80 ∷ 0x03 ∷ 0xC4 ∷ 0x8D ∷ 0x04 ∷ 0xA9 ∷ 0x00 ∷ []
+
+-- BlockWrite of 17 words
+unfoldable pub block17 : List ℕ
+block17 = 0xC7 ∷ 0xC0 ∷ 0x04 ∷ 0x40 ∷ 0x00 ∷ 0x00 ∷ 0x00 ∷ 0x40 ∷ 0x00 ∷ 0x80 ∷ 0x00 ∷ 0xC0 ∷ 0x01 ∷ 0x00 ∷ 0x01 ∷ 0x40 ∷ 0x01 ∷ 0x80 ∷ 0x01 ∷ 0xC0 ∷ 0x02 ∷ 0x00 ∷ 0x02 ∷ 0x40 ∷ 0x02 ∷ 0x80 ∷ 0x02 ∷ 0xC0 ∷ 0x03 ∷ 0x00 ∷ 0x03 ∷ 0x40 ∷ 0x03 ∷ 0x80 ∷ 0x03 ∷ 0xC0 ∷ 0x04 ∷ 0x04 ∷ 0x8D ∷ 0x0E ∷ 0x72 ∷ 0xC0 ∷ []
+
+-- Secured, with the handle 1234h and the cover number 5A5Ah
+abbrev pub secured : Session
+secured = newSession (state.Secured (record { handle = 0x1234; cover = cover.Number 0x5A5A; half = half.Nothing }))
+
+abbrev pub usedUp : Session
+usedUp = newSession (state.Secured (record { handle = 0x1234; cover = cover.Nothing; half = half.Nothing }))
+
+-- a frame of n bits to that session, with a room of 12 bytes and power for s stores
+abbrev pub sent : List ℕ → List ℕ → ℕ → ℕ → Result
+sent m f n s = frameOf (input secured m f n 0x1234 (replicate 12 0xAA) s)
+
+abbrev pub locked : List ℕ
+locked = withWord worked 16 0x0003
+
+pub record Powered : Type 0 where
+  pub idle : powerUpOf worked 1 ≡ poweredTo 0 (newSession state.Arbitrate) 1 worked
+  pub no-power : powerUpOf worked 0 ≡ poweredTo 11 offSession 0 worked
+  pub pending-cut : powerUpOf (pendingOne 17 1) 2 .number ≡ 11
+  pub pending-killed : powerUpOf (pendingOne 17 1) 3 .session ≡ newSession state.Killed
+  pub refused-first : powerUpOf (withWord worked 17 2) 0 ≡ poweredTo 3 offSession 0 (withWord worked 17 2)
+
+pub powered : Powered
+unfolding powerUpOf started powerStores layoutOf headerGood blocksIn contentGood rulesHold worked wordAt withWord wordsBits bitsOf crcOf
+powered = record { idle = refl; no-power = refl; pending-cut = refl; pending-killed = refl; refused-first = refl }
+
+-- the handle, a write, a read, and what a cut and a small room do
+pub record Sent : Type 0 where
+  pub numbered : frameOf (input (newSession (state.Acknowledged 0xBEEF)) worked reqRn 40 0x1234 (replicate 12 0xAA) 0) .session ≡ usedUp
+  pub numbered-room : frameOf (input (newSession (state.Acknowledged 0xBEEF)) worked reqRn 40 0x1234 (replicate 12 0xAA) 0) .room ≡ 0x12 ∷ 0x34 ∷ 0xF1 ∷ 0x36 ∷ 0xAA ∷ 0xAA ∷ 0xAA ∷ 0xAA ∷ 0xAA ∷ 0xAA ∷ 0xAA ∷ 0xAA ∷ []
+  pub p7 : sent worked write3 66 5 .number ≡ 0
+  pub p7-stores : sent worked write3 66 5 .stores ≡ 5
+  pub p7-session : sent worked write3 66 5 .session ≡ usedUp
+  pub p7-room : sent worked write3 66 5 .room ≡ 0x09 ∷ 0x1A ∷ 0x6B ∷ 0x13 ∷ 0x80 ∷ 0xAA ∷ 0xAA ∷ 0xAA ∷ 0xAA ∷ 0xAA ∷ 0xAA ∷ 0xAA ∷ []
+  pub p7-word : wordAt (sent worked write3 66 5 .image) 31 ≡ 0xABCD
+  pub p8 : sent worked write3 66 2 .number ≡ 11
+  pub p8-session : sent worked write3 66 2 .session ≡ offSession
+  pub no-room : frameOf (input secured worked write3 66 0 (replicate 4 0xAA) 5) .number ≡ 4
+  pub shows : sent worked readTwo 58 0 .room ≡ 0x00 ∷ 0x03 ∷ 0x00 ∷ 0x05 ∷ 0x09 ∷ 0x1A ∷ 0x7D ∷ 0x2E ∷ 0x80 ∷ 0xAA ∷ 0xAA ∷ 0xAA ∷ []
+
+pub sent-cases : Sent
+unfolding frameOf layoutOf headerGood blocksIn contentGood rulesHold worked wordAt withWord wordsBits bitsOf crcOf fieldAt pointerAt heardOf checksumRight filled packed checked readCode writeCode reqRn write3 readTwo
+sent-cases =
+    record { numbered = refl; numbered-room = refl; p7 = refl; p7-stores = refl; p7-session = refl; p7-room = refl; p7-word = refl; p8 = refl; p8-session = refl; no-room = refl; shows = refl }
+
+-- P10, P11 and the limits
+pub record Limits : Type 0 where
+  pub p10 : wordAt (sent locked lock10 60 5 .image) 16 ≡ 0x0023
+  pub p11 : sent locked lock11 60 5 .room ≡ 0x82 ∷ 0x09 ∷ 0x1A ∷ 0x67 ∷ 0xAA ∷ 0x00 ∷ 0xAA ∷ 0xAA ∷ 0xAA ∷ 0xAA ∷ 0xAA ∷ 0xAA ∷ []
+  pub p11-number : sent locked lock11 60 5 .number ≡ 10
+  pub user-15 : sent worked write15 66 5 .number ≡ 0
+  pub user-16 : sent worked write16 66 5 .room ≡ 0x81 ∷ 0x89 ∷ 0x1A ∷ 0x25 ∷ 0x62 ∷ 0x00 ∷ 0xAA ∷ 0xAA ∷ 0xAA ∷ 0xAA ∷ 0xAA ∷ 0xAA ∷ []
+  pub l-2 : sent worked pc2 66 5 .number ≡ 0
+  pub l-3 : sent worked pc3 66 5 .room ≡ 0x81 ∷ 0x89 ∷ 0x1A ∷ 0x25 ∷ 0x62 ∷ 0x00 ∷ 0xAA ∷ 0xAA ∷ 0xAA ∷ 0xAA ∷ 0xAA ∷ 0xAA ∷ []
+  pub words-16 : sent worked block16 314 50 .stores ≡ 50
+  pub words-17 : sent worked block17 330 50 .room ≡ 0x81 ∷ 0x89 ∷ 0x1A ∷ 0x25 ∷ 0x62 ∷ 0x00 ∷ 0xAA ∷ 0xAA ∷ 0xAA ∷ 0xAA ∷ 0xAA ∷ 0xAA ∷ []
+
+pub limits : Limits
+unfolding frameOf layoutOf headerGood blocksIn contentGood rulesHold worked wordAt withWord wordsBits bitsOf crcOf fieldAt pointerAt heardOf checksumRight filled packed checked readCode writeCode lockedTo lockCode write15 write16 lock10 lock11 pc2 pc3 block16 block17
+limits = record { p10 = refl; p11 = refl; p11-number = refl; user-15 = refl; user-16 = refl; l-2 = refl; l-3 = refl; words-16 = refl; words-17 = refl }
+
+-- wrong answers that the promises rule out: a power-up that makes no store, a frame that is refused where it is done, and one whose stores are invented
+pub never-lazy : powerUpOf worked 1 ≡ poweredTo 0 (newSession state.Arbitrate) 0 worked → ⊥
+never-lazy e =
+    let z : _≡_ {A = ℕ} 1 0 = sym (ap (λ (r : Result). r .stores) (powered .idle)) ∙ ap (λ (r : Result). r .stores) e in
+    omega arith
+
+pub never-refused : sent worked write3 66 5 .number ≡ 9 → ⊥
+never-refused e = let z : _≡_ {A = ℕ} 0 9 = sym (sent-cases .p7) ∙ e in omega arith
+
+pub never-invented : sent worked write3 66 5 .stores ≡ 1 → ⊥
+never-invented e = let z : _≡_ {A = ℕ} 5 1 = sym (sent-cases .p7-stores) ∙ e in omega arith
