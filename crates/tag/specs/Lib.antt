@@ -5,3 +5,4 @@ pub mod Commands
 pub mod Table
 pub mod Port
 pub mod Steps
+pub mod PortSteps
