@@ -16,10 +16,10 @@ use Rattle.bits.specs.Below.{every}
 use Rattle.bits.proofs.Windows.{field-word}
 use Rattle.image.specs.declared.Layout.{Layout}
 use Rattle.image.specs.Layout.{layoutOf, pairsIn}
-use Rattle.image.specs.Content.{countIn}
+use Rattle.image.specs.Content.{countIn, lockWord}
 use Rattle.image.specs.Check.{short, headerWrong, contentBroken}
 use Rattle.image.specs.Rules.{Header}
-use Rattle.rights.specs.Rights.{blockOpen}
+use Rattle.rights.specs.Rights.{pwdBit, blockOpen}
 use Rattle.replies.specs.Pack.{packed}
 use Rattle.stores.specs.Stores.{changeStores}
 use Rattle.stores.specs.Steps.{chosen}
@@ -27,7 +27,7 @@ use Rattle.tag.specs.declared.Live.{Live}
 use Rattle.tag.specs.declared.Session.{Session}
 use Rattle.tag.specs.Session.{offSession}
 use Rattle.tag.specs.Result.{Result}
-use Rattle.tag.specs.Commands.{isKilled}
+use Rattle.tag.specs.Commands.{isKilled, accessWord}
 use Rattle.tag.specs.Steps.{kept, onSession}
 use Rattle.tag.specs.Port.{bitOf, registerTo, withKilled, withUnwritten, transferred, badCount, badData, readBits, readOf, portWrites, writtenWords, portWords, someUnwritten, writeOf}
 use Rattle.tag.specs.PortSteps.{gated, readEnd, writeEnd, portOpen, passing, Masked}
@@ -43,6 +43,33 @@ module _ (a b c : Bool) where
 
   pub or-third : a ≡ false → b ≡ false → c ≡ (a || b || c)
   or-third p q = rw (p, q)
+
+-- whether the port may write, from the words that are asked
+module _ (a b c : Bool) where
+  and-first : a ≡ false → false ≡ (a && b && c)
+  and-first p = rw p
+
+  and-second : a ≡ true → b ≡ false → false ≡ (a && b && c)
+  and-second p q = rw (p, q)
+
+  and-third : a ≡ true → b ≡ true → c ≡ (a && b && c)
+  and-third p q = rw (p, q)
+
+module _ (y : Layout) (m : List ℕ) where
+  upper : accessWord y m 0 ≡ wordAt m (y .reserved .at + 2)
+  upper = let z : y .reserved .at + 2 + 0 ≡ y .reserved .at + 2 = omega arith in ap (wordAt m) z
+
+  pub closed-upper : (wordAt m (y .reserved .at + 2) ≡ 0 → ⊥) → false ≡ portOpen y m
+  closed-upper h =
+      and-first (eqb (accessWord y m 0) 0) (eqb (accessWord y m 1) 0) (eqb (pwdBit (lockWord y m) 4) 0) (ne-eqb (accessWord y m 0) 0 (λ e. h (sym upper ∙ e)))
+
+  pub closed-lower : wordAt m (y .reserved .at + 2) ≡ 0 → (accessWord y m 1 ≡ 0 → ⊥) → false ≡ portOpen y m
+  closed-lower z h =
+      and-second (eqb (accessWord y m 0) 0) (eqb (accessWord y m 1) 0) (eqb (pwdBit (lockWord y m) 4) 0) (eq-eqb (accessWord y m 0) 0 (upper ∙ z)) (ne-eqb (accessWord y m 1) 0 h)
+
+  pub open-by-bit : wordAt m (y .reserved .at + 2) ≡ 0 → accessWord y m 1 ≡ 0 → eqb (pwdBit (lockWord y m) 4) 0 ≡ portOpen y m
+  open-by-bit z h =
+      and-third (eqb (accessWord y m 0) 0) (eqb (accessWord y m 1) 0) (eqb (pwdBit (lockWord y m) 4) 0) (eq-eqb (accessWord y m 0) 0 (upper ∙ z)) (eq-eqb (accessWord y m 1) 0 h)
 
 -- what 13 leaves of a count and of data
 pub fits-count : (y : Layout) (at count : ℕ) → badCount y at count ≡ false → (count ≡ 0 → ⊥) × (count ≤ 255) × (at + count ≤ y .user .words)
@@ -60,14 +87,14 @@ fits-data y at d e =
 
 -- words of USER lie in the image, and WORK has pairs for them
 pub words-in : (y : Layout) (m : List ℕ) (at count : ℕ) → Header y m → badCount y at count ≡ false → 2 * (y .user .at + at + count) ≤ length m
-words-in y m at count g e = omega (arith, fits-count y at count e .1 .1, g .whole)
+words-in y m at count g e = omega (arith, fits-count y at count e .2, g .whole)
 
 pub pairs-in : (y : Layout) (m : List ℕ) (at : ℕ) (d : List ℕ) → Header y m → badData y at d ≡ false
     → (length d / 2 < 256) × (y .user .at + at + length d / 2 ≤ y .work .at) × (y .work .at < 65536) × (2 * (y .work .at + 1 + 2 * (length d / 2)) ≤ length m)
 pairs-in y m at d g e =
     let a = fits-data y at d e in
     let b = fits-count y at (length d / 2) (a .0) in
-    (omega (arith, b .1 .0), omega (arith, b .1 .1), omega arith, omega (arith, g .whole, g .work .least, a .1))
+    (omega (arith, b .1), omega (arith, b .2), omega arith, omega (arith, g .whole, g .work .least, a .1))
 
 -- 5, 6 and 13 of a session under power
 module _ (l : Live) (y : Layout) (m room : List ℕ) (bad : Bool) (rest : Result) where
@@ -179,28 +206,28 @@ mask-next y m at z j k v h e p =
 -- numbers that pass a test
 passing-most : (t : ℕ → Bool) (n : ℕ) → passing t n ≤ n
 passing-most t zero = omega arith
-passing-most t (suc n) = go (t n)
+passing-most t (suc n) = go (passing-most t n) (t n)
   where
-    go : (b : Bool) → passing t n + bitOf b ≤ suc n
-    go true = omega (arith, passing-most t n)
-    go false = omega (arith, passing-most t n)
+    go : passing t n ≤ n → (b : Bool) → passing t n + bitOf b ≤ suc n
+    go h true = omega arith
+    go h false = omega arith
 
 every-passing : (t : ℕ → Bool) (n : ℕ) → every t n ≡ eqb (passing t n) n
 every-passing t zero = refl
-every-passing t (suc n) = go (t n)
+every-passing t (suc n) = go (every-passing t n) (t n)
   where
-    go : (b : Bool) → every t n && b ≡ eqb (passing t n + bitOf b) (suc n)
-    go true = and-true (every t n) ∙ every-passing t n ∙ sym (ap (λ (x : ℕ). eqb x (suc n)) (add-one (passing t n)))
-    go false = and-false (every t n) ∙ sym (ne-eqb (passing t n + 0) (suc n) (λ e. omega (arith, passing-most t n)))
+    go : every t n ≡ eqb (passing t n) n → (b : Bool) → every t n && b ≡ eqb (passing t n + bitOf b) (suc n)
+    go h true = and-true (every t n) ∙ h ∙ sym (ap (λ (x : ℕ). eqb x (suc n)) (add-one (passing t n)))
+    go h false = and-false (every t n) ∙ sym (ne-eqb (passing t n + 0) (suc n) (λ e. omega (arith, passing-most t n)))
 
 passing-same : (t u : ℕ → Bool) (n : ℕ) → ((j : ℕ) → t j ≡ u j) → passing t n ≡ passing u n
 passing-same t u zero h = refl
 passing-same t u (suc n) h = ap₂ _+_ (passing-same t u n h) (ap bitOf (h n))
 
 -- where the port may write, the words that the mask leaves are those that may be written
-module _ (y : Layout) (m : List ℕ) (at : ℕ) (open : portOpen y m ≡ true) where
+module _ (y : Layout) (m : List ℕ) (at : ℕ) (opened : portOpen y m ≡ true) where
   by-block : (i : ℕ) → portWrites y m i ≡ blockOpen y m i
-  by-block i = ap (λ (b : Bool). b && blockOpen y m i) open
+  by-block i = ap (λ (b : Bool). b && blockOpen y m i) opened
 
   pub chosen-written : (d z : List ℕ) (n : ℕ) → ((j : ℕ) → getD d j 0 < 256) → ((j : ℕ) → j < n → eqb (getD z j 0) 0 ≡ blockOpen y m (at + j))
       → chosen (y .user .at + at) d 0 z n ≡ writtenWords y m at d n

@@ -203,15 +203,15 @@ fn mark(mask: &mut [u8], image: &[u8], y: Layout, at: usize, n: usize) -> usize
     requires { ⌜ (n ≤ length (now mask)) × (n < 256) × (at < 65536) ⌝ }
     ensures { λ r. ⌜ Masked y (now (image .entry)) at (now (mask .exit)) n r × (r ≤ n) ⌝ }
 {
-    let mut open: usize = 0;
+    let mut writable: usize = 0;
     let mut j: usize = 0;
     while j < n {
         let locked = bit(rights::block_locked(image, y, at + j));
         mask[j] = locked;
-        open += 1 - locked as usize;
+        writable += 1 - locked as usize;
         j += 1;
     }
-    open
+    writable
 }
 
 // The words that may be written, as one change.
@@ -224,14 +224,14 @@ fn store_open(l: Live, y: Layout, image: &mut [u8], at: usize, words: &[u8], s: 
 {
     let n = words.len() / 2;
     let mut mask = [0u8; 255];
-    let open = mark(&mut mask, image, y, at, n);
-    let need = answering::needed(open);
+    let writable = mark(&mut mask, image, y, at, n);
+    let need = answering::needed(writable);
     let place = y.user.at as usize + at;
     let made = stores::change(image, y.work.at as usize, place, n, words, 0, &mask, s);
     if s < need {
         return starting::stopped(Answer::PowerLost, made);
     }
-    done(with_unwritten(l, open != n), 0, made, 0)
+    done(with_unwritten(l, writable != n), 0, made, 0)
 }
 
 // What a write stores: nothing when Killed or where the port may write no word.

@@ -1,3 +1,4 @@
+use mathlib.Core.Bool.{true}
 use Rattle.tag.proofs.Ports.{or-first, or-second, or-third}
 use borrow.Author.Tests.{eq-eqb, ne-eqb, lt-ltb, le-ltb}
 use lib.Dec.{eqb, ltb}
@@ -23,7 +24,7 @@ cast-words c = search needs
 
 -- src/port.rt:132:9
 returns-3 : tie.Need-returns-3
-returns-3 c = let a = c .before .before .before .before .args in or-third (eqb (a .count) 0) (ltb 255 (a .count)) true (ne-eqb _ 0 (c .before .before .before .if1 .left)) (le-ltb 255 _ (c .before .before .if2 .left))
+returns-3 c = let a = c .before .before .before .before .args in rw (ne-eqb (a .count) 0 (c .before .before .before .if1 .left), le-ltb 255 (a .count) (c .before .before .if2 .left), lt-ltb (a .y .user .words) (a .at + a .count) (omega (arith, c .if3 .taken)))
 
 -- src/port.rt:134:13
 add-result : tie.Need-add-result

@@ -1,3 +1,11 @@
+use denote.Ref.{now}
+use lib.ListN.{length}
+use Prim.Native.Nat.{_%_}
+use native.Mathlib.Omega.{arith}
+use Rattle.tag.proofs.Ports.{or-first, or-second, or-third}
+use borrow.Author.Tests.{eq-eqb, ne-eqb}
+use mathlib.Core.Bool.{not}
+use mathlib.Core.Path.{sym, ap, _∙_}
 use borrow.Author.Needs.{needs}
 use Rattle.tag.proofs.port.bad_data.Statement.{statement}
 use Rattle.tag.proofs.port.bad_data.Tie as tie
@@ -8,7 +16,7 @@ use Rattle.tag.proofs.port.bad_count.Reads as bad-count-reads
 
 -- src/port.rt:143:9
 returns : tie.Need-returns
-returns c = ?
+returns c = or-first _ _ _ (ap not (ne-eqb _ 0 (c .if1 .taken)))
 
 -- src/port.rt:145:8
 bad-count-requires : tie.Need-bad-count-requires
@@ -16,7 +24,7 @@ bad-count-requires c κs = search needs
 
 -- src/port.rt:146:9
 returns-2 : tie.Need-returns-2
-returns-2 c = ?
+returns-2 c = or-second _ _ _ (ap not (eq-eqb (length (now (c .before .before .before .before .args .words)) % 2) 0 (omega (arith, c .before .before .if1 .left)))) (sym (c .before .bad-count .ensures) ∙ c .if2 .taken)
 
 -- src/port.rt:148:5
 pairs-requires : tie.Need-pairs-requires
@@ -24,7 +32,7 @@ pairs-requires c κs = search needs
 
 -- src/port.rt:138:1
 returns-3 : tie.Need-returns-3
-returns-3 c = ?
+returns-3 c = rw (c .pairs .ensures .0) (or-third _ _ _ (ap not (eq-eqb (length (now (c .before .before .before .before .before .args .words)) % 2) 0 (omega (arith, c .before .before .before .if1 .left)))) (sym (c .before .before .bad-count .ensures) ∙ c .before .if2 .left))
 
 pub bad-data-spec : {M : Type 1} → statement M
 bad-data-spec = tie.close (tie.spec returns bad-count-requires returns-2 pairs-requires returns-3)

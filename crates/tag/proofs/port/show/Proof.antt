@@ -1,3 +1,7 @@
+use Rattle.tag.proofs.Ports.{fits-count, words-in, read-no-room, read-killed, read-shows}
+use denote.Ref.{now}
+use mathlib.Core.Path.{sym, _∙_}
+use native.Mathlib.Omega.{arith}
 use borrow.Author.Needs.{needs}
 use Rattle.tag.proofs.port.show.Statement.{statement}
 use Rattle.tag.proofs.port.show.Tie as tie
@@ -13,7 +17,7 @@ use Rattle.tag.proofs.port.with_register.Reads as with-register-reads
 
 -- src/port.rt:157:21
 mul-if1 : tie.Need-mul-if1
-mul-if1 c = ?
+mul-if1 c = let a = c .before .before .args in record { fits = omega (arith, fits-count (a .y) (a .at) (a .count) (c .before .before .pre .1)) }
 
 -- src/port.rt:158:9
 refused-requires : tie.Need-refused-requires
@@ -21,7 +25,8 @@ refused-requires c κs = search needs
 
 -- src/port.rt:158:9
 returns : tie.Need-returns
-returns c = ?
+returns c = let a = c .before .before .before .before .args in
+    rw (c .refused .ensures) (read-no-room (a .l) (a .y) (now (a .image)) (a .at) (a .count) (now (a .room)) (c .before .if1 .taken))
 
 -- src/port.rt:161:8
 is-killed-requires : tie.Need-is-killed-requires
@@ -37,7 +42,7 @@ with-killed-requires c κs = search needs
 
 -- src/port.rt:163:37
 mul-done : tie.Need-mul-done
-mul-done c = ?
+mul-done c = let a = c .before .before .before .before .before .before .before .before .before .before .args in record { fits = omega (arith, fits-count (a .y) (a .at) (a .count) (c .before .before .before .before .before .before .before .before .before .before .pre .1)) }
 
 -- src/port.rt:163:9
 done-requires : tie.Need-done-requires
@@ -49,7 +54,8 @@ same-length c = search needs
 
 -- src/port.rt:163:9
 returns-2 : tie.Need-returns-2
-returns-2 c = ?
+returns-2 c = let a = c .before .before .before .before .before .before .before .before .before .before .before .args in
+    rw (c .done .ensures, c .before .with-killed .ensures, c .before .before .before .before .put-zeros .ensures) (read-killed (a .l) (a .y) (now (a .image)) (a .at) (a .count) (now (a .room)) (c .before .before .before .before .before .before .before .before .if1 .left) (sym (c .before .before .before .before .before .before .before .is-killed .ensures) ∙ c .before .before .before .before .before .before .if2 .taken))
 
 -- src/port.rt:165:37
 cast-put-plain : tie.Need-cast-put-plain
@@ -57,11 +63,11 @@ cast-put-plain c = search needs
 
 -- src/port.rt:165:37
 add-put-plain : tie.Need-add-put-plain
-add-put-plain c = ?
+add-put-plain c = let a = c .before .before .before .before .before .before .before .args in record { fits = omega (arith, fits-count (a .y) (a .at) (a .count) (c .before .before .before .before .before .before .before .pre .1)) }
 
 -- src/port.rt:165:5
 put-plain-requires : tie.Need-put-plain-requires
-put-plain-requires c κs = ?
+put-plain-requires c κs = let a = c .before .before .before .before .before .before .before .args in (words-in (a .y) (now (a .image)) (a .at) (a .count) (c .before .before .before .before .before .before .before .pre .0 .header) (c .before .before .before .before .before .before .before .pre .1), c .before .before .before .before .if1 .left)
 
 -- src/port.rt:167:10
 with-register-requires : tie.Need-with-register-requires
@@ -69,7 +75,7 @@ with-register-requires c κs = search needs
 
 -- src/port.rt:167:38
 mul-done-2 : tie.Need-mul-done-2
-mul-done-2 c = ?
+mul-done-2 c = let a = c .before .before .before .before .before .before .before .before .before .before .before .before .args in record { fits = omega (arith, fits-count (a .y) (a .at) (a .count) (c .before .before .before .before .before .before .before .before .before .before .before .before .pre .1)) }
 
 -- src/port.rt:167:5
 done-requires-2 : tie.Need-done-requires-2
@@ -81,7 +87,8 @@ same-length-2 c = search needs
 
 -- src/port.rt:152:1
 returns-3 : tie.Need-returns-3
-returns-3 c = ?
+returns-3 c = let a = c .before .before .before .before .before .before .before .before .before .before .before .before .before .args in
+    rw (c .done2 .ensures, c .before .with-register .ensures, c .before .before .before .before .before .put-plain .ensures) (read-shows (a .l) (a .y) (now (a .image)) (a .at) (a .count) (now (a .room)) (c .before .before .before .before .before .before .before .before .before .before .if1 .left) (sym (c .before .before .before .before .before .before .before .before .before .is-killed .ensures) ∙ c .before .before .before .before .before .before .before .before .if2 .left))
 
 pub show-spec : {M : Type 1} → statement M
 show-spec =
