@@ -1,6 +1,6 @@
 -- The port's table is what the code does, and its mask chooses the words that may be written. Assumes nothing.
 use Prim.Native.Nat.{ℕ, zero, suc, _+_, _-_, _*_, _/_, _%_, _≤_, _<_}
-use mathlib.Core.Path.{_≡_, refl, sym, ap, ap₂, _∙_}
+use mathlib.Core.Path.{_≡_, refl, sym, ap, ap₂, _∙_, subst}
 use mathlib.Core.Bool.{Bool, true, false, cond, not, _&&_, _||_, and-true, and-false}
 use mathlib.Core.List.{List, [], _∷_, _++_}
 use native.Mathlib.Omega.{arith}
@@ -9,10 +9,11 @@ use native.Mathlib.Decide.{decLt}
 use lib.Dec.{eqb, ltb}
 use lib.ListN.{length, getD, set, take, replicate, length-append}
 use lib.Seq.{getD-set-same, getD-set-other}
-use borrow.Author.Tests.{ltb-false, eqb-false, lt-ltb, le-ltb, eq-eqb, ne-eqb, not-false}
+use borrow.Author.Tests.{ltb-false, eqb-true, eqb-false, lt-ltb, le-ltb, eq-eqb, ne-eqb, not-false}
 use Rattle.bits.specs.Words.{wordAt, Store, store, after}
 use Rattle.bits.specs.Bits.{fieldAt, wordsBits}
 use Rattle.bits.specs.Below.{every}
+use Rattle.bits.proofs.Below.{same-test}
 use Rattle.bits.proofs.Windows.{field-word}
 use Rattle.image.specs.declared.Layout.{Layout}
 use Rattle.image.specs.Layout.{layoutOf, pairsIn}
@@ -22,13 +23,14 @@ use Rattle.image.specs.Rules.{Header}
 use Rattle.rights.specs.Rights.{pwdBit, blockOpen}
 use Rattle.replies.specs.Pack.{packed}
 use Rattle.stores.specs.Stores.{changeStores}
-use Rattle.stores.specs.Steps.{chosen}
+use Rattle.stores.specs.Steps.{Made, chosen}
+use Rattle.stores.proofs.Changes.{change-needs}
 use Rattle.tag.specs.declared.Live.{Live}
 use Rattle.tag.specs.declared.Session.{Session}
 use Rattle.tag.specs.Session.{offSession}
 use Rattle.tag.specs.Result.{Result}
 use Rattle.tag.specs.Commands.{isKilled, accessWord}
-use Rattle.tag.specs.Steps.{kept, onSession}
+use Rattle.tag.specs.Steps.{kept, neededFor, onSession}
 use Rattle.tag.specs.Port.{bitOf, registerTo, withKilled, withUnwritten, transferred, badCount, badData, readBits, readOf, portWrites, writtenWords, portWords, someUnwritten, writeOf}
 use Rattle.tag.specs.PortSteps.{gated, readEnd, writeEnd, portOpen, passing, Masked}
 use Rattle.tag.proofs.Plans.{none-or}
@@ -217,7 +219,10 @@ every-passing t zero = refl
 every-passing t (suc n) = go (every-passing t n) (t n)
   where
     go : every t n ≡ eqb (passing t n) n → (b : Bool) → every t n && b ≡ eqb (passing t n + bitOf b) (suc n)
-    go h true = and-true (every t n) ∙ h ∙ sym (ap (λ (x : ℕ). eqb x (suc n)) (add-one (passing t n)))
+    go h true =
+        and-true (every t n)
+        ∙ h
+        ∙ same-test (eqb (passing t n) n) (eqb (passing t n + 1) (suc n)) (λ e. eq-eqb (passing t n + 1) (suc n) (omega (arith, eqb-true (passing t n) n e))) (λ e. eq-eqb (passing t n) n (omega (arith, eqb-true (passing t n + 1) (suc n) e)))
     go h false = and-false (every t n) ∙ sym (ne-eqb (passing t n + 0) (suc n) (λ e. omega (arith, passing-most t n)))
 
 passing-same : (t u : ℕ → Bool) (n : ℕ) → ((j : ℕ) → t j ≡ u j) → passing t n ≡ passing u n
@@ -252,6 +257,18 @@ module _ (y : Layout) (m : List ℕ) (at : ℕ) (opened : portOpen y m ≡ true)
       ap not
       (every-passing (λ j. portWrites y m (at + j)) n
       ∙ ap (λ (k : ℕ). eqb k n) (passing-same (λ j. portWrites y m (at + j)) (λ j. blockOpen y m (at + j)) n (λ j. by-block (at + j))))
+
+  -- a change of what the mask leaves
+  module _ (d : List ℕ) {z : List ℕ} {n k : ℕ} (p : Masked y m at z n k) where
+    pub made-written : {s c : ℕ} {m₁ : List ℕ} → ((j : ℕ) → getD d j 0 < 256) → Made (changeStores (y .work .at) (chosen (y .user .at + at) d 0 z n)) s m m₁ c
+        → Made (changeStores (y .work .at) (writtenWords y m at d n)) s m m₁ c
+    made-written {s} {c} {m₁} bytes h = subst (λ (xs : List Store). Made (changeStores (y .work .at) xs) s m m₁ c) (chosen-written d z n bytes (p .same)) h
+
+    pub written-needs : length (changeStores (y .work .at) (writtenWords y m at d n)) ≡ neededFor k
+    written-needs = change-needs (y .work .at) (writtenWords y m at d n) ∙ ap neededFor (written-count d n ∙ sym (p .count))
+
+    pub unwritten-by : someUnwritten y m at n ≡ not (eqb k n)
+    unwritten-by = unwritten-some n ∙ ap (λ (x : ℕ). not (eqb x n)) (sym (p .count))
 
 -- where it may not, none is
 module _ (y : Layout) (m : List ℕ) (at : ℕ) (closed : portOpen y m ≡ false) where

@@ -64,7 +64,7 @@ loop-less c = search needs
 loop-again : tie.Need-loop-again Inv-loop μ-loop
 loop-again c = let a = c .before .before .before .before .before .before .args in
     let l = c .before .before .before .loop in
-    (omega arith, length-set _ _ _ ∙ l .inv .1, mask-next (a .y) (now (a .image)) (a .at) (l .mask) (l .j) (l .writable) (c .bit .result) (omega (arith, l .inv .1)) (c .bit .ensures .0 ∙ ap bitOf (c .before .block-locked .ensures)) (l .inv .2), omega (arith, l .inv .3))
+    (omega arith, length-set (l .mask) (l .j) (c .bit .result) ∙ l .inv .1, mask-next (a .y) (now (a .image)) (a .at) (l .mask) (l .j) (l .writable) (c .bit .result) (omega (arith, l .inv .1)) (c .bit .ensures .0 ∙ ap bitOf (c .before .block-locked .ensures)) (l .inv .2), omega (arith, l .inv .3))
 
 -- src/port.rt:202:1
 same-length : tie.Need-same-length Inv-loop μ-loop
