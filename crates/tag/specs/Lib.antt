@@ -6,3 +6,4 @@ pub mod Table
 pub mod Port
 pub mod Steps
 pub mod PortSteps
+pub mod Cases
