@@ -196,7 +196,7 @@ mask-next y m at z j k v h e p =
     record {
       same = λ i l. go i l (decLt i j);
       count =
-        rw (add-one j) (ap₂ _+_ (p .count) (ap (λ (x : ℕ). 1 - x) e ∙ unmasked (blockOpen y m (at + j))));
+          rw (add-one j) (ap₂ _+_ (p .count) (ap (λ (x : ℕ). 1 - x) e ∙ unmasked (blockOpen y m (at + j))));
     }
   where
     go : (i : ℕ) → i < j + 1 → Dec (i < j) → eqb (getD (set z j v) i 0) 0 ≡ blockOpen y m (at + i)

@@ -16,7 +16,6 @@ use Rattle.tag.specs.declared.State.{State}
 use Rattle.tag.specs.declared.State.the-variants as state
 use Rattle.tag.specs.declared.Power.the-variants as power
 use Rattle.tag.specs.declared.Session.{Session}
-use Rattle.tag.specs.declared.Answer.the-variants as answer
 use Rattle.tag.specs.declared.Outcome.{Outcome}
 use Rattle.tag.specs.Session.{offSession, newSession}
 use Rattle.tag.specs.Result.{Result, result}
@@ -113,10 +112,10 @@ unfolding registerOf askOf releaseOf
 registers =
     record { once = refl; again = refl; both = refl; free = refl; granted = refl; held = refl; released = refl; off = refl }
 
--- a write of USER 2 to 5 that is refused whole for the locked block; and one that says 5 stores were made
-pub never-refused : (m : List ℕ) (v : Session)
-    → result (record { answer = answer.Done; session = v; reply = 0; stores = 0; value = 0 }) m [] ≡ writeOf (holding state.Arbitrate false false) locked 2 fourWords 8 → ⊥
-never-refused m v e = let z : _≡_ {A = ℕ} 0 8 = ap (λ (r : Result). r .stores) (e ∙ writes .p12) in omega arith
+-- a write of USER 2 to 5 that is refused whole for its locked words, whatever it answers; and one that says 5 stores were made
+pub never-refused : (o : Outcome) → result o locked [] ≡ writeOf (holding state.Arbitrate false false) locked 2 fourWords 8 → ⊥
+unfolding worked wordAt withWord
+never-refused o e = let z : _≡_ {A = ℕ} 24 0x3333 = ap (λ (r : Result). wordAt (r .image) 32) (e ∙ writes .p12) in omega arith
 
 pub never-five : (o : Outcome) (m : List ℕ) → o .stores ≡ 5 → result o m [] ≡ writeOf (holding state.Arbitrate false false) locked 2 fourWords 8 → ⊥
 never-five o m h e = let z : _≡_ {A = ℕ} 5 8 = sym h ∙ ap (λ (r : Result). r .stores) (e ∙ writes .p12) in omega arith

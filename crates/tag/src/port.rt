@@ -158,7 +158,8 @@ fn show(l: Live, y: Layout, image: &[u8], at: usize, count: usize, room: &mut [u
         return answering::refused(l, Answer::NoRoom);
     }
     let state = l.state;
-    if orders::is_killed(state) {
+    let killed = orders::is_killed(state);
+    if killed {
         replies::put_zeros(room, count);
         return done(with_killed(l), 16 * count, 0, 0);
     }

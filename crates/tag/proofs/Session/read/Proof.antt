@@ -1,3 +1,4 @@
+-- `tag::Session::read` meets its contract: the check's answers are rows 1, 2 and 3, the rest is `reading`'s. Assumes nothing.
 use Rattle.tag.proofs.Ports.{read-short, read-header, read-content, read-off, read-live}
 use Rattle.tag.specs.PortSteps.{gated, readEnd}
 use Rattle.tag.specs.Port.{transferred, badCount, readOf}
@@ -13,89 +14,30 @@ use mathlib.Core.Path.{_≡_, sym, ap, _∙_, subst}
 use borrow.Author.Needs.{needs}
 use Rattle.tag.proofs.Session.read.Statement.{statement}
 use Rattle.tag.proofs.Session.read.Tie as tie
-use Rattle.tag.proofs.Session.read.Reads as reads
-use Rattle.tag.proofs.Session.read.Lts as lts
-use Rattle.image.proofs.check.Reads as check-reads
-use Rattle.tag.proofs.port.reading.Reads as reading-reads
-use Rattle.tag.proofs.radio.unmoved.Reads as unmoved-reads
 
--- src/port.rt:326:15
-check-requires : tie.Need-check-requires
-check-requires c κs = search needs
-
--- src/port.rt:327:48
-enum-told : tie.Need-enum-told
-enum-told c = search needs
-
--- src/port.rt:327:27
-unmoved-requires : tie.Need-unmoved-requires
-unmoved-requires c κs = search needs
-
--- src/port.rt:328:49
-enum-told-2 : tie.Need-enum-told-2
-enum-told-2 c = search needs
-
--- src/port.rt:328:28
-unmoved-requires-2 : tie.Need-unmoved-requires-2
-unmoved-requires-2 c κs = search needs
-
--- src/port.rt:329:50
-enum-told-3 : tie.Need-enum-told-3
-enum-told-3 c = search needs
-
--- src/port.rt:329:29
-unmoved-requires-3 : tie.Need-unmoved-requires-3
-unmoved-requires-3 c κs = search needs
-
--- src/port.rt:330:23
-enum-known-y : tie.Need-enum-known-y
-enum-known-y c = search needs
-
--- src/port.rt:332:31
-enum-known-power : tie.Need-enum-known-power
-enum-known-power c = search needs
-
--- src/port.rt:333:49
-enum-told-4 : tie.Need-enum-told-4
-enum-told-4 c = search needs
-
--- src/port.rt:333:21
-unmoved-requires-4 : tie.Need-unmoved-requires-4
-unmoved-requires-4 c κs = search needs
-
--- src/port.rt:333:21
 returns : tie.Need-returns
 returns c = let a = c .before .before .before .before .before .before .before .before .before .args in
     let h = check-0 (now (a .image)) _ (rw (c .before .before .before .before .y .given .1) at (c .before .before .before .before .before .before .check .ensures)) in
     let e : a .self ≡ offSession = ap (λ (p : Power). record { power = p }) (c .before .enum-told4 .given .1) in
     rw (c .unmoved4 .ensures) (subst (λ (v : Session). transferred 5 v 0 0 (now (a .image)) (now (a .room)) ≡ readOf v (now (a .image)) (a .at) (a .count) (now (a .room))) (sym e) (read-off (now (a .image)) (a .at) (a .count) (now (a .room)) (h .0) (h .1) (h .2)))
 
--- src/port.rt:335:17
 reading-requires : tie.Need-reading-requires
 reading-requires c κs = check-good (now (c .before .before .before .before .before .before .before .before .before .before .args .image)) _ (sym (rw (c .before .before .before .before .before .y .given .1) at (c .before .before .before .before .before .before .before .check .ensures)))
 
--- src/port.rt:323:5
 returns-2 : tie.Need-returns-2
 returns-2 c = let a = c .before .before .before .before .before .before .args in
     rw (c .unmoved .ensures) (read-short (now (a .image)) (a .at) (a .count) (now (a .room)) (a .self) (check-1 (now (a .image)) (rw (c .before .enum-told .given .1) at (c .before .before .before .check .ensures))))
 
--- src/port.rt:323:5
 returns-3 : tie.Need-returns-3
 returns-3 c = let a = c .before .before .before .before .before .before .args in
     let h = check-2 (now (a .image)) (rw (c .before .enum-told2 .given .1) at (c .before .before .before .check .ensures)) in
     rw (c .unmoved2 .ensures) (read-header (now (a .image)) (a .at) (a .count) (now (a .room)) (a .self) (h .0) (h .1))
 
--- src/port.rt:323:5
 returns-4 : tie.Need-returns-4
 returns-4 c = let a = c .before .before .before .before .before .before .args in
     let h = check-3 (now (a .image)) (rw (c .before .enum-told3 .given .1) at (c .before .before .before .check .ensures)) in
     rw (c .unmoved3 .ensures) (read-content (now (a .image)) (a .at) (a .count) (now (a .room)) (a .self) (h .0) (h .1) (h .2))
 
--- src/port.rt:323:5
-same-length : tie.Need-same-length
-same-length c = search needs
-
--- src/port.rt:323:5
 returns-5 : tie.Need-returns-5
 returns-5 c = let a = c .before .before .before .before .before .before .before .before .before .before .before .before .before .args in
     let g = rw (c .before .before .before .before .before .before .before .before .y .given .1) at (c .before .before .before .before .before .before .before .before .before .before .check .ensures) in
@@ -111,22 +53,7 @@ returns-5 c = let a = c .before .before .before .before .before .before .before 
 pub read-spec : {M : Type 1} → statement M
 read-spec =
     tie.close
-    (tie.spec
-    check-requires
-    enum-told
-    unmoved-requires
-    enum-told-2
-    unmoved-requires-2
-    enum-told-3
-    unmoved-requires-3
-    enum-known-y
-    enum-known-power
-    enum-told-4
-    unmoved-requires-4
-    returns
-    reading-requires
-    returns-2
-    returns-3
-    returns-4
-    same-length
-    returns-5)
+    (tie.spec (λ c κs. search needs) (λ c. search needs) (λ c κs. search needs) (λ c. search needs)
+    (λ c κs. search needs) (λ c. search needs) (λ c κs. search needs) (λ c. search needs) (λ c. search needs)
+    (λ c. search needs) (λ c κs. search needs) returns reading-requires returns-2 returns-3 returns-4
+    (λ c. search needs) returns-5)

@@ -1,3 +1,4 @@
+-- `tag::port::bad_data` meets its contract: the first of three tests that holds. Assumes nothing.
 use denote.Ref.{now}
 use lib.ListN.{length}
 use Prim.Native.Nat.{_%_}
@@ -9,30 +10,16 @@ use mathlib.Core.Path.{sym, ap, _∙_}
 use borrow.Author.Needs.{needs}
 use Rattle.tag.proofs.port.bad_data.Statement.{statement}
 use Rattle.tag.proofs.port.bad_data.Tie as tie
-use Rattle.tag.proofs.port.bad_data.Reads as reads
-use Rattle.tag.proofs.port.bad_data.Lts as lts
-use Rattle.image.proofs.pairs.Reads as pairs-reads
-use Rattle.tag.proofs.port.bad_count.Reads as bad-count-reads
 
--- src/port.rt:143:9
 returns : tie.Need-returns
 returns c = or-first _ _ _ (ap not (ne-eqb _ 0 (c .if1 .taken)))
 
--- src/port.rt:145:8
-bad-count-requires : tie.Need-bad-count-requires
-bad-count-requires c κs = search needs
-
--- src/port.rt:146:9
 returns-2 : tie.Need-returns-2
 returns-2 c = or-second _ _ _ (ap not (eq-eqb (length (now (c .before .before .before .before .args .words)) % 2) 0 (omega (arith, c .before .before .if1 .left)))) (sym (c .before .bad-count .ensures) ∙ c .if2 .taken)
 
--- src/port.rt:148:5
-pairs-requires : tie.Need-pairs-requires
-pairs-requires c κs = search needs
-
--- src/port.rt:138:1
 returns-3 : tie.Need-returns-3
 returns-3 c = rw (c .pairs .ensures .0) (or-third _ _ _ (ap not (eq-eqb (length (now (c .before .before .before .before .before .args .words)) % 2) 0 (omega (arith, c .before .before .before .if1 .left)))) (sym (c .before .before .bad-count .ensures) ∙ c .before .if2 .left))
 
 pub bad-data-spec : {M : Type 1} → statement M
-bad-data-spec = tie.close (tie.spec returns bad-count-requires returns-2 pairs-requires returns-3)
+bad-data-spec = tie.close
+    (tie.spec returns (λ c κs. search needs) returns-2 (λ c κs. search needs) returns-3)

@@ -1,3 +1,4 @@
+-- `tag::port::store_open` meets its contract: the words that the mask leaves are those that may be written. Assumes nothing.
 use Rattle.tag.proofs.Ports.{fits-count, fits-data, pairs-in, made-written, written-needs, unwritten-by, write-cut, write-done}
 use Rattle.tag.specs.Port.{writtenWords, someUnwritten}
 use Rattle.stores.specs.Stores.{changeStores}
@@ -13,64 +14,27 @@ use Prim.Native.Nat.{_/_, _≤_, _<_}
 use borrow.Author.Needs.{needs}
 use Rattle.tag.proofs.port.store_open.Statement.{statement}
 use Rattle.tag.proofs.port.store_open.Tie as tie
-use Rattle.tag.proofs.port.store_open.Reads as reads
-use Rattle.tag.proofs.port.store_open.Lts as lts
-use Rattle.stores.proofs.change.Reads as change-reads
-use Rattle.tag.proofs.answering.needed.Reads as needed-reads
-use Rattle.tag.proofs.port.done.Reads as done-reads
-use Rattle.tag.proofs.port.mark.Reads as mark-reads
-use Rattle.tag.proofs.port.with_unwritten.Reads as with-unwritten-reads
-use Rattle.tag.proofs.starting.stopped.Reads as stopped-reads
 
--- src/port.rt:227:25
-slice-aggregate-mark : tie.Need-slice-aggregate-mark
-slice-aggregate-mark c = search needs
-
--- src/port.rt:227:9
 mark-requires : tie.Need-mark-requires
 mark-requires c κs = let a = c .before .before .before .before .args in
     let h = fits-count (a .y) (a .at) (length (now (a .words)) / 2) (fits-data (a .y) (a .at) (now (a .words)) (c .before .before .before .before .pre .1 .0) .0) in
     (h .1, omega (arith, h .1), omega (arith, h .2, c .before .before .before .before .pre .0 .header .user .most))
 
--- src/port.rt:228:9
 needed-requires : tie.Need-needed-requires
 needed-requires c κs = let a = c .before .before .before .before .before .before .args in
     let h = fits-count (a .y) (a .at) (length (now (a .words)) / 2) (fits-data (a .y) (a .at) (now (a .words)) (c .before .before .before .before .before .before .pre .1 .0) .0) in
     omega (arith, h .1, c .before .mark .ensures .1)
 
--- src/port.rt:229:17
-cast-place : tie.Need-cast-place
-cast-place c = search needs
-
--- src/port.rt:229:17
 add-place : tie.Need-add-place
 add-place c = let a = c .before .before .before .before .before .before .before .before .args in
     let h = fits-count (a .y) (a .at) (length (now (a .words)) / 2) (fits-data (a .y) (a .at) (now (a .words)) (c .before .before .before .before .before .before .before .before .pre .1 .0) .0) in
     record { fits = omega (arith, h .2) }
 
--- src/port.rt:230:38
-cast-change : tie.Need-cast-change
-cast-change c = search needs
-
--- src/port.rt:230:78
-slice-aggregate-change : tie.Need-slice-aggregate-change
-slice-aggregate-change c = search needs
-
--- src/port.rt:230:9
 change-requires : tie.Need-change-requires
 change-requires c κs = let a = c .before .before .before .before .before .before .before .before .before .before .before .args in
     let h = pairs-in (a .y) (now (a .image)) (a .at) (now (a .words)) (c .before .before .before .before .before .before .before .before .before .before .before .pre .0 .header) (c .before .before .before .before .before .before .before .before .before .before .before .pre .1 .0) in
     (h .0, h .1, h .2, h .3, omega arith)
 
--- src/port.rt:232:9
-stopped-requires : tie.Need-stopped-requires
-stopped-requires c κs = search needs
-
--- src/port.rt:232:9
-same-length : tie.Need-same-length
-same-length c = search needs
-
--- src/port.rt:232:9
 returns : tie.Need-returns
 returns c = let a = c .before .before .before .before .before .before .before .before .before .before .before .before .before .before .before .before .args in
     let y = a .y in
@@ -85,19 +49,6 @@ returns c = let a = c .before .before .before .before .before .before .before .b
     let e : c .before .before .before .before .change .result ≡ a .s = omega (arith, p .made, l) in
     rw (c .stopped .ensures, e, p .image) (write-cut (a .l) y m (a .at) d (a .s) ss (someUnwritten y m (a .at) (length d / 2)) (c .before .before .before .before .before .before .before .before .before .before .before .before .before .before .before .before .pre .1 .1 .0) refl refl l)
 
--- src/port.rt:234:10
-with-unwritten-requires : tie.Need-with-unwritten-requires
-with-unwritten-requires c κs = search needs
-
--- src/port.rt:234:5
-done-requires : tie.Need-done-requires
-done-requires c κs = search needs
-
--- src/port.rt:218:1
-same-length-2 : tie.Need-same-length-2
-same-length-2 c = search needs
-
--- src/port.rt:218:1
 returns-2 : tie.Need-returns-2
 returns-2 c = let a = c .before .before .before .before .before .before .before .before .before .before .before .before .before .before .before .before .before .args in
     let y = a .y in
@@ -116,19 +67,6 @@ returns-2 c = let a = c .before .before .before .before .before .before .before 
 pub store-open-spec : {M : Type 1} → statement M
 store-open-spec =
     tie.close
-    (tie.spec
-    slice-aggregate-mark
-    mark-requires
-    needed-requires
-    cast-place
-    add-place
-    cast-change
-    slice-aggregate-change
-    change-requires
-    stopped-requires
-    same-length
-    returns
-    with-unwritten-requires
-    done-requires
-    same-length-2
-    returns-2)
+    (tie.spec (λ c. search needs) mark-requires needed-requires (λ c. search needs) add-place (λ c. search needs)
+    (λ c. search needs) change-requires (λ c κs. search needs) (λ c. search needs) returns (λ c κs. search needs)
+    (λ c κs. search needs) (λ c. search needs) returns-2)
