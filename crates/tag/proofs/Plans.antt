@@ -37,7 +37,7 @@ none-row true e rest h = absurd (never h)
     never h = let z : _≡_ {A = ℕ} 0 1 = cc in omega arith
 none-row false e rest h = (refl, h)
 
-none-or : (a b : Bool) → a || b ≡ false → (a ≡ false) × (b ≡ false)
+pub none-or : (a b : Bool) → a || b ≡ false → (a ≡ false) × (b ≡ false)
 none-or true b h = (h, go b h)
   where
     go : (b : Bool) → true ≡ false → b ≡ false

@@ -7,3 +7,5 @@ pub mod Port
 pub mod One
 pub mod Steps
 pub mod Worked
+pub mod PortSteps
+pub mod Cases

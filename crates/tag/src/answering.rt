@@ -56,7 +56,7 @@ pub fn moved(l: Live, state: State) -> Session
 }
 
 // The stores that a change of c words needs.
-fn needed(c: usize) -> usize
+pub fn needed(c: usize) -> usize
     requires { ⌜ c < 256 ⌝ }
     ensures { λ r. ⌜ (r ≡ neededFor c) × (r < 1024) ⌝ }
 {

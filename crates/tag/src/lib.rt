@@ -2,6 +2,7 @@
 mod acting;
 mod answering;
 mod orders;
+mod port;
 mod radio;
 mod starting;
 

@@ -23,7 +23,7 @@ fn both(a: bool, b: bool) -> bool
     a && b
 }
 
-fn either(a: bool, b: bool) -> bool
+pub fn either(a: bool, b: bool) -> bool
     ensures { λ r. ⌜ r ≡ (a || b) ⌝ }
 {
     a || b

@@ -19,7 +19,7 @@ use image::Fit;
 use image::Layout;
 
 // Everything stays.
-fn unmoved(session: Session, answer: Answer) -> Outcome
+pub fn unmoved(session: Session, answer: Answer) -> Outcome
     ensures { λ r. ⌜ r ≡ keptWith session answer ⌝ }
 {
     Outcome {

@@ -1,0 +1,360 @@
+-- The port's table is what the code does, and its mask chooses the words that may be written. Assumes nothing.
+use Prim.Native.Nat.{ℕ, zero, suc, _+_, _-_, _*_, _/_, _%_, _≤_, _<_}
+use mathlib.Core.Path.{_≡_, refl, sym, ap, ap₂, _∙_, subst}
+use mathlib.Core.Bool.{Bool, true, false, cond, not, _&&_, _||_, and-true, and-false}
+use mathlib.Core.List.{List, [], _∷_, _++_}
+use native.Mathlib.Omega.{arith}
+use native.Mathlib.Numerals.{add-one}
+use native.Mathlib.Decide.{decLt}
+use lib.Dec.{eqb, ltb}
+use lib.ListN.{length, getD, set, take, replicate, length-append}
+use lib.Seq.{getD-set-same, getD-set-other}
+use borrow.Author.Tests.{ltb-false, eqb-true, eqb-false, lt-ltb, le-ltb, eq-eqb, ne-eqb, not-false}
+use Rattle.bits.specs.Words.{wordAt, Store, store, after}
+use Rattle.bits.specs.Bits.{fieldAt, wordsBits}
+use Rattle.bits.specs.Below.{every}
+use Rattle.bits.proofs.Below.{same-test}
+use Rattle.bits.proofs.Windows.{field-word}
+use Rattle.image.specs.declared.Layout.{Layout}
+use Rattle.image.specs.Layout.{layoutOf, pairsIn}
+use Rattle.image.specs.Content.{countIn, lockWord}
+use Rattle.image.specs.Check.{short, headerWrong, contentBroken}
+use Rattle.image.specs.Rules.{Header}
+use Rattle.rights.specs.Rights.{pwdBit, blockOpen}
+use Rattle.replies.specs.Pack.{packed}
+use Rattle.stores.specs.Stores.{changeStores}
+use Rattle.stores.specs.Steps.{Made, chosen}
+use Rattle.stores.proofs.Changes.{change-needs}
+use Rattle.tag.specs.declared.Live.{Live}
+use Rattle.tag.specs.declared.Session.{Session}
+use Rattle.tag.specs.Session.{offSession}
+use Rattle.tag.specs.Result.{Result}
+use Rattle.tag.specs.Commands.{isKilled, accessWord}
+use Rattle.tag.specs.Steps.{kept, neededFor, onSession}
+use Rattle.tag.specs.Port.{bitOf, registerTo, withKilled, withUnwritten, transferred, badCount, badData, readBits, readOf, portWrites, writtenWords, portWords, someUnwritten, writeOf}
+use Rattle.tag.specs.PortSteps.{gated, readEnd, writeEnd, portOpen, passing, Masked}
+use Rattle.tag.proofs.Plans.{none-or}
+
+-- the first of three tests that holds
+module _ (a b c : Bool) where
+  pub or-first : a ≡ true → true ≡ (a || b || c)
+  or-first p = rw p
+
+  pub or-second : a ≡ false → b ≡ true → true ≡ (a || b || c)
+  or-second p q = rw (p, q)
+
+  pub or-third : a ≡ false → b ≡ false → c ≡ (a || b || c)
+  or-third p q = rw (p, q)
+
+-- whether the port may write, from the words that are asked
+module _ (a b c : Bool) where
+  and-first : a ≡ false → false ≡ (a && b && c)
+  and-first p = rw p
+
+  and-second : a ≡ true → b ≡ false → false ≡ (a && b && c)
+  and-second p q = rw (p, q)
+
+  and-third : a ≡ true → b ≡ true → c ≡ (a && b && c)
+  and-third p q = rw (p, q)
+
+module _ (y : Layout) (m : List ℕ) where
+  upper : accessWord y m 0 ≡ wordAt m (y .reserved .at + 2)
+  upper = let z : y .reserved .at + 2 + 0 ≡ y .reserved .at + 2 = omega arith in ap (wordAt m) z
+
+  pub closed-upper : (wordAt m (y .reserved .at + 2) ≡ 0 → ⊥) → false ≡ portOpen y m
+  closed-upper h =
+      and-first (eqb (accessWord y m 0) 0) (eqb (accessWord y m 1) 0) (eqb (pwdBit (lockWord y m) 4) 0) (ne-eqb (accessWord y m 0) 0 (λ e. h (sym upper ∙ e)))
+
+  pub closed-lower : wordAt m (y .reserved .at + 2) ≡ 0 → (accessWord y m 1 ≡ 0 → ⊥) → false ≡ portOpen y m
+  closed-lower z h =
+      and-second (eqb (accessWord y m 0) 0) (eqb (accessWord y m 1) 0) (eqb (pwdBit (lockWord y m) 4) 0) (eq-eqb (accessWord y m 0) 0 (upper ∙ z)) (ne-eqb (accessWord y m 1) 0 h)
+
+  pub open-by-bit : wordAt m (y .reserved .at + 2) ≡ 0 → accessWord y m 1 ≡ 0 → eqb (pwdBit (lockWord y m) 4) 0 ≡ portOpen y m
+  open-by-bit z h =
+      and-third (eqb (accessWord y m 0) 0) (eqb (accessWord y m 1) 0) (eqb (pwdBit (lockWord y m) 4) 0) (eq-eqb (accessWord y m 0) 0 (upper ∙ z)) (eq-eqb (accessWord y m 1) 0 h)
+
+-- what 13 leaves of a count and of data
+pub fits-count : (y : Layout) (at count : ℕ) → badCount y at count ≡ false → (count ≡ 0 → ⊥) × (count ≤ 255) × (at + count ≤ y .user .words)
+fits-count y at count e =
+    let a = none-or (eqb count 0 || ltb 255 count) (ltb (y .user .words) (at + count)) e in
+    let b = none-or (eqb count 0) (ltb 255 count) (a .0) in
+    (eqb-false count 0 (b .0), ltb-false 255 count (b .1), ltb-false _ _ (a .1))
+
+pub fits-data : (y : Layout) (at : ℕ) (d : List ℕ) → badData y at d ≡ false
+    → (badCount y at (length d / 2) ≡ false) × (length d / 2 ≤ pairsIn y)
+fits-data y at d e =
+    let a = none-or (not (eqb (length d % 2) 0) || badCount y at (length d / 2)) (ltb (pairsIn y) (length d / 2)) e in
+    let b = none-or (not (eqb (length d % 2) 0)) (badCount y at (length d / 2)) (a .0) in
+    (b .1, ltb-false _ _ (a .1))
+
+-- words of USER lie in the image, and WORK has pairs for them
+pub words-in : (y : Layout) (m : List ℕ) (at count : ℕ) → Header y m → badCount y at count ≡ false → 2 * (y .user .at + at + count) ≤ length m
+words-in y m at count g e = omega (arith, fits-count y at count e .2, g .whole)
+
+pub pairs-in : (y : Layout) (m : List ℕ) (at : ℕ) (d : List ℕ) → Header y m → badData y at d ≡ false
+    → (length d / 2 < 256) × (y .user .at + at + length d / 2 ≤ y .work .at) × (y .work .at < 65536) × (2 * (y .work .at + 1 + 2 * (length d / 2)) ≤ length m)
+pairs-in y m at d g e =
+    let a = fits-data y at d e in
+    let b = fits-count y at (length d / 2) (a .0) in
+    (omega (arith, b .1), omega (arith, b .2), omega arith, omega (arith, g .whole, g .work .least, a .1))
+
+-- 5, 6 and 13 of a session under power
+module _ (l : Live) (y : Layout) (m room : List ℕ) (bad : Bool) (rest : Result) where
+  past-5 : Bool → Bool → Result
+  past-5 a b = cond a (kept 6 l m room) (cond b (kept 13 l m room) rest)
+
+  from-5 : Bool → Result
+  from-5 z = cond (not z) (kept 5 l m room) (past-5 (not (l .held)) bad)
+
+  pub gated-pending : (countIn y m ≡ 0 → ⊥) → kept 5 l m room ≡ gated l y m room bad rest
+  unfolding gated past-5 from-5
+  gated-pending h = sym (ap from-5 (ne-eqb (countIn y m) 0 h))
+
+  ready : countIn y m ≡ 0 → past-5 (not (l .held)) bad ≡ gated l y m room bad rest
+  unfolding gated past-5 from-5
+  ready z = sym (ap from-5 (eq-eqb (countIn y m) 0 z))
+
+  pub gated-free : countIn y m ≡ 0 → not (l .held) ≡ true → kept 6 l m room ≡ gated l y m room bad rest
+  unfolding past-5
+  gated-free z h = sym (ap (λ (a : Bool). past-5 a bad) h) ∙ ready z
+
+  pub gated-bad : countIn y m ≡ 0 → not (l .held) ≡ false → bad ≡ true → kept 13 l m room ≡ gated l y m room bad rest
+  unfolding past-5
+  gated-bad z h b = sym (ap₂ past-5 h b) ∙ ready z
+
+  pub gated-on : countIn y m ≡ 0 → not (l .held) ≡ false → bad ≡ false → rest ≡ gated l y m room bad rest
+  unfolding past-5
+  gated-on z h b = sym (ap₂ past-5 h b) ∙ ready z
+
+past-three : (a b c : Bool) (x y z w : Result) → a ≡ false → b ≡ false → c ≡ false → cond a x (cond b y (cond c z w)) ≡ w
+past-three a b c x y z w p q r = rw (p, q, r)
+
+-- a read's rows
+module _ (m : List ℕ) (at count : ℕ) (room : List ℕ) where
+  pub read-short : (v : Session) → short m ≡ true → transferred 1 v 0 0 m room ≡ readOf v m at count room
+  unfolding readOf
+  read-short v p = rw p
+
+  pub read-header : (v : Session) → short m ≡ false → headerWrong m ≡ true → transferred 2 v 0 0 m room ≡ readOf v m at count room
+  unfolding readOf
+  read-header v p q = rw (p, q)
+
+  pub read-content : (v : Session) → short m ≡ false → headerWrong m ≡ false → contentBroken m ≡ true → transferred 3 v 0 0 m room ≡ readOf v m at count room
+  unfolding readOf
+  read-content v p q r = rw (p, q, r)
+
+  pub read-off : short m ≡ false → headerWrong m ≡ false → contentBroken m ≡ false → transferred 5 offSession 0 0 m room ≡ readOf offSession m at count room
+  unfolding readOf
+  read-off p q r = rw (p, q, r)
+
+  pub read-live : (l : Live) → short m ≡ false → headerWrong m ≡ false → contentBroken m ≡ false
+      → readOf (onSession l) m at count room ≡ gated l (layoutOf m) m room (badCount (layoutOf m) at count) (readEnd l (layoutOf m) m at count room)
+  unfolding readOf gated readEnd
+  read-live l p q r =
+      past-three (short m) (headerWrong m) (contentBroken m) (kept 1 l m room) (kept 2 l m room) (kept 3 l m room)
+      (gated l (layoutOf m) m room (badCount (layoutOf m) at count) (readEnd l (layoutOf m) m at count room)) p q r
+
+-- a read's ends
+module _ (l : Live) (y : Layout) (m : List ℕ) (at count : ℕ) (room : List ℕ) where
+  shown : Bool → Result
+  shown k =
+      transferred 0 (registerTo l (cond k (withKilled (l .register)) (l .register))) (16 * count) 0 m (packed (readBits y m k at count) room)
+
+  pub read-no-room : length room < 2 * count → kept 4 l m room ≡ readEnd l y m at count room
+  unfolding readEnd shown
+  read-no-room h = sym (ap (λ (b : Bool). cond b (kept 4 l m room) (shown (isKilled (l .state)))) (lt-ltb (length room) (2 * count) h))
+
+  roomy : 2 * count ≤ length room → shown (isKilled (l .state)) ≡ readEnd l y m at count room
+  unfolding readEnd shown
+  roomy h = sym (ap (λ (b : Bool). cond b (kept 4 l m room) (shown (isKilled (l .state)))) (le-ltb (length room) (2 * count) h))
+
+  pub read-killed : 2 * count ≤ length room → isKilled (l .state) ≡ true
+      → transferred 0 (registerTo l (withKilled (l .register))) (16 * count) 0 m (packed (replicate (16 * count) 0) room) ≡ readEnd l y m at count room
+  unfolding shown
+  read-killed h k = sym (ap shown k) ∙ roomy h
+
+  pub read-shows : 2 * count ≤ length room → isKilled (l .state) ≡ false
+      → transferred 0 (registerTo l (l .register)) (16 * count) 0 m (packed (wordsBits m (y .user .at + at) count) room) ≡ readEnd l y m at count room
+  unfolding shown
+  read-shows h k = sym (ap shown k) ∙ roomy h
+
+-- a mask's next byte
+masked-byte : (b : Bool) → eqb (bitOf (not b)) 0 ≡ b
+masked-byte true = refl
+masked-byte false = refl
+
+unmasked : (b : Bool) → 1 - bitOf (not b) ≡ bitOf b
+unmasked true = refl
+unmasked false = refl
+
+pub no-mask : (y : Layout) (m : List ℕ) (at : ℕ) (z : List ℕ) → Masked y m at z 0 0
+no-mask y m at z = record { same = λ j h. absurd (omega arith); count = refl }
+
+pub mask-next : (y : Layout) (m : List ℕ) (at : ℕ) (z : List ℕ) (j k v : ℕ) → j < length z → v ≡ bitOf (not (blockOpen y m (at + j)))
+    → Masked y m at z j k → Masked y m at (set z j v) (j + 1) (k + (1 - v))
+mask-next y m at z j k v h e p =
+    record {
+      same = λ i l. go i l (decLt i j);
+      count =
+          rw (add-one j) (ap₂ _+_ (p .count) (ap (λ (x : ℕ). 1 - x) e ∙ unmasked (blockOpen y m (at + j))));
+    }
+  where
+    go : (i : ℕ) → i < j + 1 → Dec (i < j) → eqb (getD (set z j v) i 0) 0 ≡ blockOpen y m (at + i)
+    go i l (yes s) = rw (getD-set-other z j i v 0 (λ q. omega arith)) (p .same i s)
+    go i l (no s) =
+        let q : i ≡ j = omega arith in
+        rw q (ap (λ (x : ℕ). eqb x 0) (getD-set-same z j v 0 h ∙ e) ∙ masked-byte (blockOpen y m (at + j)))
+
+-- numbers that pass a test
+passing-most : (t : ℕ → Bool) (n : ℕ) → passing t n ≤ n
+passing-most t zero = omega arith
+passing-most t (suc n) = go (passing-most t n) (t n)
+  where
+    go : passing t n ≤ n → (b : Bool) → passing t n + bitOf b ≤ suc n
+    go h true = omega arith
+    go h false = omega arith
+
+every-passing : (t : ℕ → Bool) (n : ℕ) → every t n ≡ eqb (passing t n) n
+every-passing t zero = refl
+every-passing t (suc n) = go (every-passing t n) (t n)
+  where
+    go : every t n ≡ eqb (passing t n) n → (b : Bool) → every t n && b ≡ eqb (passing t n + bitOf b) (suc n)
+    go h true =
+        and-true (every t n)
+        ∙ h
+        ∙ same-test (eqb (passing t n) n) (eqb (passing t n + 1) (suc n)) (λ e. eq-eqb (passing t n + 1) (suc n) (omega (arith, eqb-true (passing t n) n e))) (λ e. eq-eqb (passing t n) n (omega (arith, eqb-true (passing t n + 1) (suc n) e)))
+    go h false = and-false (every t n) ∙ sym (ne-eqb (passing t n + 0) (suc n) (λ e. omega (arith, passing-most t n)))
+
+passing-same : (t u : ℕ → Bool) (n : ℕ) → ((j : ℕ) → t j ≡ u j) → passing t n ≡ passing u n
+passing-same t u zero h = refl
+passing-same t u (suc n) h = ap₂ _+_ (passing-same t u n h) (ap bitOf (h n))
+
+-- where the port may write, the words that the mask leaves are those that may be written
+module _ (y : Layout) (m : List ℕ) (at : ℕ) (opened : portOpen y m ≡ true) where
+  by-block : (i : ℕ) → portWrites y m i ≡ blockOpen y m i
+  by-block i = ap (λ (b : Bool). b && blockOpen y m i) opened
+
+  pub chosen-written : (d z : List ℕ) (n : ℕ) → ((j : ℕ) → getD d j 0 < 256) → ((j : ℕ) → j < n → eqb (getD z j 0) 0 ≡ blockOpen y m (at + j))
+      → chosen (y .user .at + at) d 0 z n ≡ writtenWords y m at d n
+  chosen-written d z zero bytes h = refl
+  chosen-written d z (suc n) bytes h =
+      let e : 0 + 16 * n ≡ 16 * n = omega arith in
+      ap₂ _++_ (chosen-written d z n bytes (λ j l. h j (omega arith)))
+      (ap₂ (λ (b : Bool) (v : ℕ). cond b (store (y .user .at + at + n) v ∷ []) []) (h n (omega arith) ∙ sym (by-block (at + n))) (ap (λ (p : ℕ). fieldAt d p 16) e ∙ field-word d n bytes))
+
+  pub written-count : (d : List ℕ) (n : ℕ) → length (writtenWords y m at d n) ≡ passing (λ j. blockOpen y m (at + j)) n
+  written-count d zero = refl
+  written-count d (suc n) =
+      length-append (writtenWords y m at d n) (cond (portWrites y m (at + n)) (store (y .user .at + at + n) (wordAt d n) ∷ []) [])
+      ∙ ap₂ _+_ (written-count d n) (one (portWrites y m (at + n)) ∙ ap bitOf (by-block (at + n)))
+    where
+      one : (b : Bool) → length (cond b (store (y .user .at + at + n) (wordAt d n) ∷ []) []) ≡ bitOf b
+      one true = refl
+      one false = refl
+
+  pub unwritten-some : (n : ℕ) → someUnwritten y m at n ≡ not (eqb (passing (λ j. blockOpen y m (at + j)) n) n)
+  unwritten-some n =
+      ap not
+      (every-passing (λ j. portWrites y m (at + j)) n
+      ∙ ap (λ (k : ℕ). eqb k n) (passing-same (λ j. portWrites y m (at + j)) (λ j. blockOpen y m (at + j)) n (λ j. by-block (at + j))))
+
+  -- a change of what the mask leaves
+  module _ (d : List ℕ) {z : List ℕ} {n k : ℕ} (p : Masked y m at z n k) where
+    pub made-written : {s c : ℕ} {m₁ : List ℕ} → ((j : ℕ) → getD d j 0 < 256) → Made (changeStores (y .work .at) (chosen (y .user .at + at) d 0 z n)) s m m₁ c
+        → Made (changeStores (y .work .at) (writtenWords y m at d n)) s m m₁ c
+    made-written {s} {c} {m₁} bytes h = subst (λ (xs : List Store). Made (changeStores (y .work .at) xs) s m m₁ c) (chosen-written d z n bytes (p .same)) h
+
+    pub written-needs : length (changeStores (y .work .at) (writtenWords y m at d n)) ≡ neededFor k
+    written-needs = change-needs (y .work .at) (writtenWords y m at d n) ∙ ap neededFor (written-count d n ∙ sym (p .count))
+
+    pub unwritten-by : someUnwritten y m at n ≡ not (eqb k n)
+    unwritten-by = unwritten-some n ∙ ap (λ (x : ℕ). not (eqb x n)) (sym (p .count))
+
+-- where it may not, none is
+module _ (y : Layout) (m : List ℕ) (at : ℕ) (closed : portOpen y m ≡ false) where
+  not-written : (i : ℕ) → portWrites y m i ≡ false
+  not-written i = ap (λ (b : Bool). b && blockOpen y m i) closed
+
+  pub none-written : (d : List ℕ) (n : ℕ) → writtenWords y m at d n ≡ []
+  none-written d zero = refl
+  none-written d (suc n) =
+      ap₂ (λ (xs : List Store) (b : Bool). xs ++ cond b (store (y .user .at + at + n) (wordAt d n) ∷ []) []) (none-written d n) (not-written (at + n))
+
+  pub none-unwritten : (n : ℕ) → (n ≡ 0 → ⊥) → someUnwritten y m at n ≡ true
+  none-unwritten zero h = absurd (h refl)
+  none-unwritten (suc n) h =
+      let t = every (λ j. portWrites y m (at + j)) n in
+      ap not (ap (λ (b : Bool). t && b) (not-written (at + n)) ∙ and-false t)
+
+-- a write's rows
+module _ (m : List ℕ) (at : ℕ) (d : List ℕ) (s : ℕ) where
+  pub write-short : (v : Session) → short m ≡ true → transferred 1 v 0 0 m [] ≡ writeOf v m at d s
+  unfolding writeOf
+  write-short v p = rw p
+
+  pub write-header : (v : Session) → short m ≡ false → headerWrong m ≡ true → transferred 2 v 0 0 m [] ≡ writeOf v m at d s
+  unfolding writeOf
+  write-header v p q = rw (p, q)
+
+  pub write-content : (v : Session) → short m ≡ false → headerWrong m ≡ false → contentBroken m ≡ true → transferred 3 v 0 0 m [] ≡ writeOf v m at d s
+  unfolding writeOf
+  write-content v p q r = rw (p, q, r)
+
+  pub write-off : short m ≡ false → headerWrong m ≡ false → contentBroken m ≡ false → transferred 5 offSession 0 0 m [] ≡ writeOf offSession m at d s
+  unfolding writeOf
+  write-off p q r = rw (p, q, r)
+
+  pub write-live : (l : Live) → short m ≡ false → headerWrong m ≡ false → contentBroken m ≡ false
+      → writeOf (onSession l) m at d s ≡ gated l (layoutOf m) m [] (badData (layoutOf m) at d) (writeEnd l (layoutOf m) m at d s)
+  unfolding writeOf gated writeEnd
+  write-live l p q r =
+      past-three (short m) (headerWrong m) (contentBroken m) (kept 1 l m []) (kept 2 l m []) (kept 3 l m [])
+      (gated l (layoutOf m) m [] (badData (layoutOf m) at d) (writeEnd l (layoutOf m) m at d s)) p q r
+
+-- a write's ends
+module _ (l : Live) (y : Layout) (m : List ℕ) (at : ℕ) (d : List ℕ) (s : ℕ) where
+  stores : List Store → List Store
+  stores ss = changeStores (y .work .at) ss
+
+  lost : List Store → Result
+  lost ss = transferred 11 offSession 0 s (after m (take s (stores ss))) []
+
+  made : Bool → List Store → Bool → Result
+  made k ss u =
+      transferred 0 (registerTo l (cond k (withKilled (l .register)) (withUnwritten u (l .register)))) 0 (length (stores ss)) (after m (stores ss)) []
+
+  ends : Bool → List Store → Bool → Result
+  ends k ss u = cond (ltb s (length (stores ss))) (lost ss) (made k ss u)
+
+  end-is : (k : Bool) (ss : List Store) (u : Bool) → isKilled (l .state) ≡ k → portWords y m k at d ≡ ss → someUnwritten y m at (length d / 2) ≡ u
+      → ends k ss u ≡ writeEnd l y m at d s
+  unfolding writeEnd ends made lost stores
+  end-is k ss u e f g =
+      let n = length d / 2 in
+      sym (ap (λ (b : Bool). ends b (portWords y m b at d) (someUnwritten y m at n)) e ∙ ap₂ (ends k) f g)
+
+  nothing : (k u : Bool) → made k [] u ≡ ends k [] u
+  unfolding ends stores
+  nothing k u = sym (ap (λ (b : Bool). cond b (lost []) (made k [] u)) (le-ltb s 0 (omega arith)))
+
+  pub write-killed : isKilled (l .state) ≡ true → transferred 0 (registerTo l (withKilled (l .register))) 0 0 m [] ≡ writeEnd l y m at d s
+  unfolding made stores
+  write-killed e = nothing true (someUnwritten y m at (length d / 2)) ∙ end-is true [] (someUnwritten y m at (length d / 2)) e refl refl
+
+  pub write-closed : isKilled (l .state) ≡ false → portOpen y m ≡ false → (length d / 2 ≡ 0 → ⊥)
+      → transferred 0 (registerTo l (withUnwritten true (l .register))) 0 0 m [] ≡ writeEnd l y m at d s
+  unfolding made stores
+  write-closed e o n = nothing false true ∙ end-is false [] true e (none-written y m at o d (length d / 2)) (none-unwritten y m at o (length d / 2) n)
+
+  module _ (ss : List Store) (u : Bool) (e : isKilled (l .state) ≡ false) (f : writtenWords y m at d (length d / 2) ≡ ss)
+      (g : someUnwritten y m at (length d / 2) ≡ u) where
+    pub write-cut : s < length (changeStores (y .work .at) ss)
+        → transferred 11 offSession 0 s (after m (take s (changeStores (y .work .at) ss))) [] ≡ writeEnd l y m at d s
+    unfolding ends lost stores
+    write-cut h = sym (ap (λ (b : Bool). cond b (lost ss) (made false ss u)) (lt-ltb s (length (stores ss)) h)) ∙ end-is false ss u e f g
+
+    pub write-done : length (changeStores (y .work .at) ss) ≤ s
+        → transferred 0 (registerTo l (withUnwritten u (l .register))) 0 (length (changeStores (y .work .at) ss)) (after m (changeStores (y .work .at) ss)) []
+        ≡ writeEnd l y m at d s
+    unfolding ends made stores
+    write-done h = sym (ap (λ (b : Bool). cond b (lost ss) (made false ss u)) (le-ltb s (length (stores ss)) h)) ∙ end-is false ss u e f g

@@ -1,0 +1,121 @@
+-- P12 (RULES 6.2) and the edges of the port, computed on the worked image; two wrong answers that the promise of a write rules out. Assumes nothing.
+use Prim.Native.Nat.{ℕ}
+use mathlib.Core.Path.{_≡_, refl, ap, sym, _∙_}
+use mathlib.Core.Bool.{Bool, true, false}
+use mathlib.Core.List.{List, [], _∷_}
+use native.Mathlib.Omega.{arith}
+use lib.ListN.{take, replicate}
+use Rattle.bits.specs.Words.{wordAt, withWord, Store, store, after}
+use Rattle.bits.specs.Bits.{bitsOf, wordsBits}
+use Rattle.image.specs.Layout.{layoutOf, blocksIn, headerGood}
+use Rattle.image.specs.Content.{rulesHold, contentGood}
+use Rattle.image.specs.Worked.{worked, workedLayout, bytesOf}
+use Rattle.replies.specs.Pack.{filled, packed}
+use Rattle.stores.specs.Stores.{changeStores}
+use Rattle.tag.specs.declared.State.{State}
+use Rattle.tag.specs.declared.State.the-variants as state
+use Rattle.tag.specs.declared.Power.the-variants as power
+use Rattle.tag.specs.declared.Session.{Session}
+use Rattle.tag.specs.declared.Outcome.{Outcome}
+use Rattle.tag.specs.Session.{offSession, newSession}
+use Rattle.tag.specs.Result.{Result, result}
+use Rattle.tag.specs.Table.{answered}
+use Rattle.tag.specs.Port.{transferred, writtenWords, askOf, releaseOf, registerOf, readOf, writeOf}
+
+-- a session that holds the port, with its register's two bits
+abbrev pub holding : State → Bool → Bool → Session
+holding st unwritten killed =
+    record { power = power.On (record { state = st; held = true; register = record { unwritten = unwritten; killed = killed } }) }
+
+-- the worked image with block 0 of USER permalocked
+abbrev pub locked : List ℕ
+locked = withWord worked 44 0x8000
+
+-- four words for USER 2 to 5
+abbrev pub fourWords : List ℕ
+fourWords = bytesOf (0x1111 ∷ 0x2222 ∷ 0x3333 ∷ 0x4444 ∷ [])
+
+-- USER 4 and 5 are words 32 and 33 of the image
+abbrev pub p12Stores : List Store
+p12Stores =
+    store 46 32 ∷ store 47 0x3333
+    ∷ store 48 33 ∷ store 49 0x4444
+    ∷ store 45 2
+    ∷ store 32 0x3333 ∷ store 33 0x4444
+    ∷ store 45 0
+    ∷ []
+
+pub record Writes : Type 0 where
+  pub p12-stores : changeStores 45 (writtenWords workedLayout locked 2 fourWords 4) ≡ p12Stores
+  pub p12 : writeOf (holding state.Arbitrate false false) locked 2 fourWords 8
+      ≡ transferred 0 (holding state.Arbitrate true false) 0 8 (after locked p12Stores) []
+  pub power-7 : writeOf (holding state.Arbitrate false false) locked 2 fourWords 7
+      ≡ transferred 11 offSession 0 7 (after locked (take 7 p12Stores)) []
+  pub killed : writeOf (holding state.Killed false false) locked 2 fourWords 8 ≡ transferred 0 (holding state.Killed false true) 0 0 locked []
+  pub password : writeOf (holding state.Arbitrate false false) (withWord worked 21 1) 2 fourWords 14
+      ≡ transferred 0 (holding state.Arbitrate true false) 0 0 (withWord worked 21 1) []
+  pub user-10 : writeOf (holding state.Arbitrate false false) (withWord worked 16 0x002) 2 fourWords 14
+      ≡ transferred 0 (holding state.Arbitrate true false) 0 0 (withWord worked 16 0x002) []
+  pub nothing : writeOf (holding state.Arbitrate false false) locked 2 [] 8 ≡ transferred 13 (holding state.Arbitrate false false) 0 0 locked []
+  pub odd : writeOf (holding state.Arbitrate false false) locked 2 (1 ∷ 2 ∷ 3 ∷ []) 8 ≡ transferred 13 (holding state.Arbitrate false false) 0 0 locked []
+  pub last : writeOf (holding state.Arbitrate false false) worked 12 fourWords 13 ≡ transferred 11 offSession 0 13 (after worked (take 13 (changeStores 45 (writtenWords workedLayout worked 12 fourWords 4)))) []
+  pub past : writeOf (holding state.Arbitrate false false) locked 13 fourWords 14 ≡ transferred 13 (holding state.Arbitrate false false) 0 0 locked []
+  pub free : writeOf (newSession state.Arbitrate) locked 2 fourWords 8 ≡ transferred 6 (newSession state.Arbitrate) 0 0 locked []
+
+pub writes : Writes
+unfolding writeOf layoutOf headerGood blocksIn contentGood rulesHold worked wordAt withWord
+writes =
+    record {
+      p12-stores = refl;
+      p12 = refl;
+      power-7 = refl;
+      killed = refl;
+      password = refl;
+      user-10 = refl;
+      nothing = refl;
+      odd = refl;
+      last = refl;
+      past = refl;
+      free = refl;
+    }
+
+pub record Reads : Type 0 where
+  pub shows : readOf (holding state.Arbitrate false false) worked 2 2 (replicate 5 0xFF)
+      ≡ transferred 0 (holding state.Arbitrate false false) 32 0 worked (0 ∷ 6 ∷ 0 ∷ 10 ∷ 0xFF ∷ [])
+  pub killed : readOf (holding state.Killed false false) worked 2 2 (replicate 5 0xFF)
+      ≡ transferred 0 (holding state.Killed false true) 32 0 worked (0 ∷ 0 ∷ 0 ∷ 0 ∷ 0xFF ∷ [])
+  pub nothing : readOf (holding state.Arbitrate false false) worked 2 0 [] ≡ transferred 13 (holding state.Arbitrate false false) 0 0 worked []
+  pub past : readOf (holding state.Arbitrate false false) worked 15 2 [] ≡ transferred 13 (holding state.Arbitrate false false) 0 0 worked []
+  pub over-255 : readOf (holding state.Arbitrate false false) worked 0 256 [] ≡ transferred 13 (holding state.Arbitrate false false) 0 0 worked []
+  pub no-room : readOf (holding state.Arbitrate false false) worked 2 2 (replicate 3 0xFF)
+      ≡ transferred 4 (holding state.Arbitrate false false) 0 0 worked (replicate 3 0xFF)
+
+pub reads : Reads
+unfolding readOf layoutOf headerGood blocksIn contentGood rulesHold worked wordAt withWord bitsOf wordsBits packed filled
+reads = record { shows = refl; killed = refl; nothing = refl; past = refl; over-255 = refl; no-room = refl }
+
+-- the register after P12: 2, then 0; it is told only to the holder
+pub record Registers : Type 0 where
+  pub once : registerOf (holding state.Arbitrate true false)
+      ≡ record { number = 0; session = holding state.Arbitrate false false; reply = 0; stores = 0; value = 2; image = []; room = [] }
+  pub again : registerOf (holding state.Arbitrate false false)
+      ≡ record { number = 0; session = holding state.Arbitrate false false; reply = 0; stores = 0; value = 0; image = []; room = [] }
+  pub both : registerOf (holding state.Killed true true) .value ≡ 3
+  pub free : registerOf (newSession state.Arbitrate) ≡ answered 6 (newSession state.Arbitrate)
+  pub granted : askOf (newSession state.Arbitrate) ≡ answered 0 (holding state.Arbitrate false false)
+  pub held : askOf (holding state.Arbitrate true false) ≡ answered 6 (holding state.Arbitrate true false)
+  pub released : releaseOf (holding state.Arbitrate false false) ≡ answered 0 (newSession state.Arbitrate)
+  pub off : askOf offSession ≡ answered 5 offSession
+
+pub registers : Registers
+unfolding registerOf askOf releaseOf
+registers =
+    record { once = refl; again = refl; both = refl; free = refl; granted = refl; held = refl; released = refl; off = refl }
+
+-- a write of USER 2 to 5 that is refused whole for its locked words, whatever it answers; and one that says 5 stores were made
+pub never-refused : (o : Outcome) → result o locked [] ≡ writeOf (holding state.Arbitrate false false) locked 2 fourWords 8 → ⊥
+unfolding worked wordAt withWord
+never-refused o e = let z : _≡_ {A = ℕ} 24 0x3333 = ap (λ (r : Result). wordAt (r .image) 32) (e ∙ writes .p12) in omega arith
+
+pub never-five : (o : Outcome) (m : List ℕ) → o .stores ≡ 5 → result o m [] ≡ writeOf (holding state.Arbitrate false false) locked 2 fourWords 8 → ⊥
+never-five o m h e = let z : _≡_ {A = ℕ} 5 8 = sym h ∙ ap (λ (r : Result). r .stores) (e ∙ writes .p12) in omega arith

@@ -1,0 +1,62 @@
+-- The port as the code answers it: the outcome of a call, and a transfer's ends. Assumes nothing.
+use Prim.Native.Nat.{ℕ, zero, suc, _+_, _*_, _/_, _<_, _≤_}
+use mathlib.Core.Path.{_≡_}
+use mathlib.Core.Bool.{Bool, cond, not, _&&_}
+use mathlib.Core.List.{List, []}
+use lib.Dec.{eqb, ltb}
+use lib.ListN.{length, getD, take}
+use Rattle.bits.specs.Words.{after}
+use Rattle.image.specs.declared.Layout.{Layout}
+use Rattle.image.specs.Content.{countIn, lockWord}
+use Rattle.rights.specs.Rights.{pwdBit, blockOpen}
+use Rattle.replies.specs.Pack.{packed}
+use Rattle.stores.specs.Stores.{changeStores}
+use Rattle.tag.specs.declared.Live.{Live}
+use Rattle.tag.specs.declared.Session.{Session}
+use Rattle.tag.specs.declared.Answer.the-variants as answer
+use Rattle.tag.specs.declared.Outcome.{Outcome}
+use Rattle.tag.specs.Session.{offSession}
+use Rattle.tag.specs.Result.{Result}
+use Rattle.tag.specs.Commands.{isKilled, accessWord}
+use Rattle.tag.specs.Steps.{kept}
+use Rattle.tag.specs.Port.{bitOf, registerTo, withKilled, withUnwritten, transferred, readBits, portWords, someUnwritten}
+
+-- done, with the session, the reply's length, the stores made and the register as it was read
+abbrev pub doneWith : Session → ℕ → ℕ → ℕ → Outcome
+doneWith v reply stores value = record { answer = answer.Done; session = v; reply = reply; stores = stores; value = value }
+
+-- a transfer of a session under power on a good image: 5, 6, 13, or what follows
+unfoldable pub gated : Live → Layout → List ℕ → List ℕ → Bool → Result → Result
+gated l y m room bad rest =
+    cond (not (eqb (countIn y m) 0)) (kept 5 l m room) (cond (not (l .held)) (kept 6 l m room) (cond bad (kept 13 l m room) rest))
+
+-- a read that 13 does not stop
+unfoldable pub readEnd : Live → Layout → List ℕ → ℕ → ℕ → List ℕ → Result
+readEnd l y m at count room =
+    let killed = isKilled (l .state) in
+    cond (ltb (length room) (2 * count)) (kept 4 l m room)
+    (transferred 0 (registerTo l (cond killed (withKilled (l .register)) (l .register))) (16 * count) 0 m (packed (readBits y m killed at count) room))
+
+-- a write that 13 does not stop
+unfoldable pub writeEnd : Live → Layout → List ℕ → ℕ → List ℕ → ℕ → Result
+writeEnd l y m at d power =
+    let killed = isKilled (l .state) in
+    let stores = changeStores (y .work .at) (portWords y m killed at d) in
+    cond (ltb power (length stores)) (transferred 11 offSession 0 power (after m (take power stores)) [])
+    (transferred 0
+    (registerTo l (cond killed (withKilled (l .register)) (withUnwritten (someUnwritten y m at (length d / 2)) (l .register))))
+    0 (length stores) (after m stores) [])
+
+-- the port may write USER words whose block is open
+abbrev pub portOpen : Layout → List ℕ → Bool
+portOpen y m = eqb (accessWord y m 0) 0 && eqb (accessWord y m 1) 0 && eqb (pwdBit (lockWord y m) 4) 0
+
+-- how many of the numbers below n pass a test
+abbrev pub passing : (ℕ → Bool) → ℕ → ℕ
+passing t zero = 0
+passing t (suc n) = passing t n + bitOf (t n)
+
+-- byte j of the mask z is 0 where USER word at + j stands in an open block, for n words, k of them in open blocks
+pub record Masked (y : Layout) (m : List ℕ) (at : ℕ) (z : List ℕ) (n k : ℕ) : Type 0 where
+  pub same : (j : ℕ) → j < n → eqb (getD z j 0) 0 ≡ blockOpen y m (at + j)
+  pub count : k ≡ passing (λ j. blockOpen y m (at + j)) n

@@ -1,0 +1,358 @@
+// The SPI port: asking, releasing, the register, reads and writes of USER (RULES 4).
+ghost use mathlib.Core.Path.{_≡_};
+ghost use mathlib.Core.Bool.{false, true};
+ghost use mathlib.Core.List.{[]};
+ghost use Prim.Native.Nat.{_≤_, _<_};
+ghost use lib.ListN.{length};
+ghost use Rattle.image.specs.Rules.{Good};
+ghost use Rattle.tag.specs.Commands.{isKilled};
+ghost use Rattle.tag.specs.Port.{isLinked, heldTo, registerTo, bitOf, numberIn, withKilled, withUnwritten, badCount, badData, askOf, releaseOf, registerOf, readOf, writeOf};
+ghost use Rattle.tag.specs.PortSteps.{doneWith, gated, readEnd, writeEnd, portOpen, Masked};
+ghost use Rattle.tag.specs.Result.{result};
+use crate::Answer;
+use crate::Live;
+use crate::Outcome;
+use crate::Power;
+use crate::Register;
+use crate::Session;
+use crate::State;
+use crate::answering;
+use crate::orders;
+use crate::radio;
+use crate::starting;
+use image::Fit;
+use image::Layout;
+
+fn is_linked(state: State) -> bool
+    ensures { λ r. ⌜ r ≡ isLinked state ⌝ }
+{
+    match state {
+        State::Arbitrate => false,
+        State::Acknowledged(_) => false,
+        State::Open(_) => true,
+        State::Secured(_) => true,
+        State::Killed => false,
+    }
+}
+
+// The session with its port held or free.
+fn with_held(l: Live, held: bool) -> Session
+    ensures { λ r. ⌜ r ≡ heldTo l held ⌝ }
+{
+    let state = l.state;
+    let register = l.register;
+    Session {
+        power: Power::On(Live {
+            state: state,
+            held: held,
+            register: register,
+        }),
+    }
+}
+
+// The session with another register.
+fn with_register(l: Live, register: Register) -> Session
+    ensures { λ r. ⌜ r ≡ registerTo l register ⌝ }
+{
+    let state = l.state;
+    Session {
+        power: Power::On(Live {
+            state: state,
+            held: l.held,
+            register: register,
+        }),
+    }
+}
+
+// With bit 0 set.
+fn with_killed(l: Live) -> Session
+    ensures { λ r. ⌜ r ≡ registerTo l (withKilled (l .register)) ⌝ }
+{
+    let register = l.register;
+    with_register(
+        l,
+        Register {
+            unwritten: register.unwritten,
+            killed: true,
+        },
+    )
+}
+
+// With bit 1 set where b is.
+fn with_unwritten(l: Live, b: bool) -> Session
+    ensures { λ r. ⌜ r ≡ registerTo l (withUnwritten b (l .register)) ⌝ }
+{
+    let register = l.register;
+    with_register(
+        l,
+        Register {
+            unwritten: orders::either(register.unwritten, b),
+            killed: register.killed,
+        },
+    )
+}
+
+fn bit(b: bool) -> u8
+    ensures { λ r. ⌜ (r ≡ bitOf b) × (r < 2) ⌝ }
+{
+    if b { 1 } else { 0 }
+}
+
+// The register as a number.
+fn number_in(register: Register) -> u8
+    ensures { λ r. ⌜ r ≡ numberIn register ⌝ }
+{
+    2 * bit(register.unwritten) + bit(register.killed)
+}
+
+fn done(session: Session, reply: usize, stores: usize, value: u8) -> Outcome
+    ensures { λ r. ⌜ r ≡ doneWith session reply stores value ⌝ }
+{
+    Outcome {
+        answer: Answer::Done,
+        session: session,
+        reply: reply,
+        stores: stores,
+        value: value,
+    }
+}
+
+// No word, more than 255, or words past USER's end.
+fn bad_count(y: Layout, at: usize, count: usize) -> bool
+    ensures { λ r. ⌜ r ≡ badCount y at count ⌝ }
+{
+    if count == 0 {
+        return true;
+    }
+    if 255 < count {
+        return true;
+    }
+    let words = y.user.words as usize;
+    if words < at {
+        return true;
+    }
+    words < at + count
+}
+
+// Odd data, a bad count, or more words than WORK has pairs.
+fn bad_data(y: Layout, at: usize, words: &[u8]) -> bool
+    ensures { λ r. ⌜ r ≡ badData y at (now (words .entry)) ⌝ }
+{
+    let n = words.len();
+    if n % 2 != 0 {
+        return true;
+    }
+    if bad_count(y, at, n / 2) {
+        return true;
+    }
+    image::pairs(y) < n / 2
+}
+
+// Words of USER into the room, or zeros when Killed.
+fn show(l: Live, y: Layout, image: &[u8], at: usize, count: usize, room: &mut [u8]) -> Outcome
+    requires { ⌜ Good y (now image) ⌝ }
+    requires { ⌜ badCount y at count ≡ false ⌝ }
+    ensures { λ r. ⌜ result r (now (image .entry)) (now (room .exit)) ≡ readEnd l y (now (image .entry)) at count (now (room .entry)) ⌝ }
+{
+    if room.len() < 2 * count {
+        return answering::refused(l, Answer::NoRoom);
+    }
+    let state = l.state;
+    let killed = orders::is_killed(state);
+    if killed {
+        replies::put_zeros(room, count);
+        return done(with_killed(l), 16 * count, 0, 0);
+    }
+    replies::put_plain(room, image, y.user.at as usize + at, count);
+    let register = l.register;
+    done(with_register(l, register), 16 * count, 0, 0)
+}
+
+// A read of a session under power on a good image.
+fn reading(l: Live, y: Layout, image: &[u8], at: usize, count: usize, room: &mut [u8]) -> Outcome
+    requires { ⌜ Good y (now image) ⌝ }
+    ensures { λ r. ⌜ result r (now (image .entry)) (now (room .exit)) ≡ gated l y (now (image .entry)) (now (room .entry)) (badCount y at count) (readEnd l y (now (image .entry)) at count (now (room .entry))) ⌝ }
+{
+    if bits::word(image, y.work.at as usize) != 0 {
+        return answering::refused(l, Answer::NotReady);
+    }
+    if !l.held {
+        return answering::refused(l, Answer::Port);
+    }
+    if bad_count(y, at, count) {
+        return answering::refused(l, Answer::Count);
+    }
+    show(l, y, image, at, count, room)
+}
+
+// No access password and no USER pwd bit: the port may write words of open blocks.
+fn is_open(image: &[u8], y: Layout) -> bool
+    ensures { λ r. ⌜ r ≡ portOpen y (now (image .entry)) ⌝ }
+{
+    let at = y.reserved.at as usize + 2;
+    if bits::word(image, at) != 0 {
+        return false;
+    }
+    if bits::word(image, at + 1) != 0 {
+        return false;
+    }
+    rights::pwd_bit(bits::word(image, y.status.at as usize), 4) == 0
+}
+
+// A byte for each of n USER words from word `at` on: 1 where its block is permalocked. Answers how many are 0.
+fn mark(mask: &mut [u8], image: &[u8], y: Layout, at: usize, n: usize) -> usize
+    requires { ⌜ (n ≤ length (now mask)) × (n < 256) × (at < 65536) ⌝ }
+    ensures { λ r. ⌜ Masked y (now (image .entry)) at (now (mask .exit)) n r × (r ≤ n) ⌝ }
+{
+    let mut writable: usize = 0;
+    let mut j: usize = 0;
+    while j < n {
+        let locked = bit(rights::block_locked(image, y, at + j));
+        mask[j] = locked;
+        writable += 1 - locked as usize;
+        j += 1;
+    }
+    writable
+}
+
+// The words that may be written, as one change.
+fn store_open(l: Live, y: Layout, image: &mut [u8], at: usize, words: &[u8], s: usize) -> Outcome
+    requires { ⌜ Good y (now image) ⌝ }
+    requires { ⌜ badData y at (now words) ≡ false ⌝ }
+    requires { ⌜ isKilled (l .state) ≡ false ⌝ }
+    requires { ⌜ portOpen y (now image) ≡ true ⌝ }
+    ensures { λ r. ⌜ result r (now (image .exit)) [] ≡ writeEnd l y (now (image .entry)) at (now (words .entry)) s ⌝ }
+{
+    let n = words.len() / 2;
+    let mut mask = [0u8; 255];
+    let writable = mark(&mut mask, image, y, at, n);
+    let need = answering::needed(writable);
+    let place = y.user.at as usize + at;
+    let made = stores::change(image, y.work.at as usize, place, n, words, 0, &mask, s);
+    if s < need {
+        return starting::stopped(Answer::PowerLost, made);
+    }
+    done(with_unwritten(l, writable != n), 0, made, 0)
+}
+
+// What a write stores: nothing when Killed or where the port may write no word.
+fn store(l: Live, y: Layout, image: &mut [u8], at: usize, words: &[u8], s: usize) -> Outcome
+    requires { ⌜ Good y (now image) ⌝ }
+    requires { ⌜ badData y at (now words) ≡ false ⌝ }
+    ensures { λ r. ⌜ result r (now (image .exit)) [] ≡ writeEnd l y (now (image .entry)) at (now (words .entry)) s ⌝ }
+{
+    let state = l.state;
+    if orders::is_killed(state) {
+        return done(with_killed(l), 0, 0, 0);
+    }
+    if !is_open(image, y) {
+        return done(with_unwritten(l, true), 0, 0, 0);
+    }
+    store_open(l, y, image, at, words, s)
+}
+
+// A write of a session under power on a good image.
+fn writing(l: Live, y: Layout, image: &mut [u8], at: usize, words: &[u8], s: usize) -> Outcome
+    requires { ⌜ Good y (now image) ⌝ }
+    ensures { λ r. ⌜ result r (now (image .exit)) [] ≡ gated l y (now (image .entry)) [] (badData y at (now (words .entry))) (writeEnd l y (now (image .entry)) at (now (words .entry)) s) ⌝ }
+{
+    if bits::word(image, y.work.at as usize) != 0 {
+        return answering::refused(l, Answer::NotReady);
+    }
+    if !l.held {
+        return answering::refused(l, Answer::Port);
+    }
+    if bad_data(y, at, words) {
+        return answering::refused(l, Answer::Count);
+    }
+    store(l, y, image, at, words, s)
+}
+
+impl Session {
+    // Asks for the port.
+    pub fn ask(self) -> Outcome
+        ensures { λ r. ⌜ result r [] [] ≡ askOf self ⌝ }
+    {
+        let power = self.power;
+        let Power::On(l) = power else {
+            return radio::unmoved(self, Answer::NotReady);
+        };
+        if l.held {
+            return radio::unmoved(self, Answer::Port);
+        }
+        let state = l.state;
+        if is_linked(state) {
+            return radio::unmoved(self, Answer::Port);
+        }
+        done(with_held(l, true), 0, 0, 0)
+    }
+
+    // Gives the port back.
+    pub fn release(self) -> Outcome
+        ensures { λ r. ⌜ result r [] [] ≡ releaseOf self ⌝ }
+    {
+        let power = self.power;
+        let Power::On(l) = power else {
+            return radio::unmoved(self, Answer::NotReady);
+        };
+        if !l.held {
+            return radio::unmoved(self, Answer::Port);
+        }
+        done(with_held(l, false), 0, 0, 0)
+    }
+
+    // Reads the register, which clears it.
+    pub fn register(self) -> Outcome
+        ensures { λ r. ⌜ result r [] [] ≡ registerOf self ⌝ }
+    {
+        let power = self.power;
+        let Power::On(l) = power else {
+            return radio::unmoved(self, Answer::NotReady);
+        };
+        if !l.held {
+            return radio::unmoved(self, Answer::Port);
+        }
+        let register = l.register;
+        let clear = Register {
+            unwritten: false,
+            killed: false,
+        };
+        done(with_register(l, clear), 0, 0, number_in(register))
+    }
+
+    // Reads count words of USER from word `at` on into the room.
+    pub fn read(self, image: &[u8], at: usize, count: usize, room: &mut [u8]) -> Outcome
+        ensures { λ r. ⌜ result r (now (image .entry)) (now (room .exit)) ≡ readOf self (now (image .entry)) at count (now (room .entry)) ⌝ }
+    {
+        match image::check(image) {
+            Fit::Short => radio::unmoved(self, Answer::Short),
+            Fit::Header => radio::unmoved(self, Answer::Header),
+            Fit::Content => radio::unmoved(self, Answer::Content),
+            Fit::Good(y) => {
+                let power = self.power;
+                let Power::On(l) = power else {
+                    return radio::unmoved(self, Answer::NotReady);
+                };
+                reading(l, y, image, at, count, room)
+            }
+        }
+    }
+
+    // Writes words to USER from word `at` on, with power for s stores.
+    pub fn write(self, image: &mut [u8], at: usize, words: &[u8], s: usize) -> Outcome
+        ensures { λ r. ⌜ result r (now (image .exit)) [] ≡ writeOf self (now (image .entry)) at (now (words .entry)) s ⌝ }
+    {
+        match image::check(image) {
+            Fit::Short => radio::unmoved(self, Answer::Short),
+            Fit::Header => radio::unmoved(self, Answer::Header),
+            Fit::Content => radio::unmoved(self, Answer::Content),
+            Fit::Good(y) => {
+                let power = self.power;
+                let Power::On(l) = power else {
+                    return radio::unmoved(self, Answer::NotReady);
+                };
+                writing(l, y, image, at, words, s)
+            }
+        }
+    }
+}
