@@ -1,3 +1,4 @@
+-- `tag::answering::act` meets its contract: too little room, too little power, or done. Assumes nothing.
 use Rattle.tag.specs.Steps.{actOf, doneEnd}
 use Rattle.tag.specs.Commands.{linkOf, isSecured, replyAfter, stateAfter}
 use Rattle.bits.specs.Words.{Store}
@@ -8,53 +9,19 @@ use denote.Ref.{now}
 use borrow.Author.Needs.{needs}
 use Rattle.tag.proofs.answering.act.Statement.{statement}
 use Rattle.tag.proofs.answering.act.Tie as tie
-use Rattle.tag.proofs.answering.act.Reads as reads
-use Rattle.tag.proofs.answering.act.Lts as lts
-use Rattle.tag.proofs.acting.change_after.Reads as change-after-reads
-use Rattle.tag.proofs.acting.reply_after.Reads as reply-after-reads
-use Rattle.tag.proofs.answering.give_done.Reads as give-done-reads
-use Rattle.tag.proofs.orders.link_of.Reads as link-of-reads
-use Rattle.tag.proofs.orders.state_after.Reads as state-after-reads
 
--- src/answering.rt:141:9
-link-of-requires : tie.Need-link-of-requires
-link-of-requires c κs = search needs
-
--- src/answering.rt:143:16
-state-after-requires : tie.Need-state-after-requires
-state-after-requires c κs = search needs
-
--- src/answering.rt:144:16
 reply-after-requires : tie.Need-reply-after-requires
 reply-after-requires c κs = let a = c .before .before .before .before .before .before .args in
     let q = isSecured (a .l .state) in
     let f = now (a .frame) in
     shown (a .y) (now (a .image)) (c .before .before .before .before .before .before .pre .0 .header) (now (a .image)) q (linkOf (a .l .state)) f (a .order) (c .before .before .before .before .before .before .pre .1 .1)
 
--- src/answering.rt:145:17
-change-after-requires : tie.Need-change-after-requires
-change-after-requires c κs = search needs
-
--- src/answering.rt:147:31
-cast-give-done : tie.Need-cast-give-done
-cast-give-done c = search needs
-
--- src/answering.rt:147:5
 give-done-requires : tie.Need-give-done-requires
 give-done-requires c κs = let a = c .before .before .before .before .before .before .before .before .before .before .before .before .args in
     let q = isSecured (a .l .state) in
     let f = now (a .frame) in
     (rw (c .before .before .before .change-after .ensures, c .before .before .before .before .before .before .before .before .link-of .ensures) (makes (a .y) (now (a .image)) (c .before .before .before .before .before .before .before .before .before .before .before .before .pre .0 .header) (now (a .image)) q (linkOf (a .l .state)) f (a .order) (c .before .before .before .before .before .before .before .before .before .before .before .before .pre .1 .0) (c .before .before .before .before .before .before .before .before .before .before .before .before .pre .1 .1)), rw (c .before .before .before .before .before .reply-after .ensures, c .before .before .before .before .before .before .before .before .link-of .ensures) (reply-end (a .y) (now (a .image)) (c .before .before .before .before .before .before .before .before .before .before .before .before .pre .0 .header) (now (a .image)) q (linkOf (a .l .state)) f (a .fresh) (a .order) (c .before .before .before .before .before .before .before .before .before .before .before .before .pre .1 .1)))
 
--- src/answering.rt:125:1
-same-length : tie.Need-same-length
-same-length c = search needs
-
--- src/answering.rt:125:1
-same-length-2 : tie.Need-same-length-2
-same-length-2 c = search needs
-
--- src/answering.rt:125:1
 returns : tie.Need-returns
 unfolding actOf
 returns c = let a = c .before .before .before .before .before .before .before .before .before .before .before .before .before .before .before .before .before .args in
@@ -67,13 +34,5 @@ returns c = let a = c .before .before .before .before .before .before .before .b
 pub act-spec : {M : Type 1} → statement M
 act-spec =
     tie.close
-    (tie.spec
-    link-of-requires
-    state-after-requires
-    reply-after-requires
-    change-after-requires
-    cast-give-done
-    give-done-requires
-    same-length
-    same-length-2
-    returns)
+    (tie.spec (λ c κs. search needs) (λ c κs. search needs) reply-after-requires (λ c κs. search needs)
+    (λ c. search needs) give-done-requires (λ c. search needs) (λ c. search needs) returns)

@@ -1,3 +1,4 @@
+-- `tag::answering::give_done` meets its contract: the reply of an order that is done. Assumes nothing.
 use Rattle.tag.specs.Steps.{doneEnd, neededFor}
 use Rattle.changes.proofs.Counts.{words-count, few-words}
 use Rattle.changes.specs.Changes.{wordsOf}
@@ -14,55 +15,17 @@ use borrow.Author.Tests.{eq-eqb, ne-eqb, lt-ltb, le-ltb}
 use borrow.Author.Needs.{needs}
 use Rattle.tag.proofs.answering.give_done.Statement.{statement}
 use Rattle.tag.proofs.answering.give_done.Tie as tie
-use Rattle.tag.proofs.answering.give_done.Reads as reads
-use Rattle.tag.proofs.answering.give_done.Lts as lts
-use Rattle.changes.proofs.count.Reads as count-reads
-use Rattle.changes.proofs.make.Reads as make-reads
-use Rattle.replies.proofs.bit_count.Reads as bit-count-reads
-use Rattle.replies.proofs.put.Reads as put-reads
-use Rattle.tag.proofs.answering.moved.Reads as moved-reads
-use Rattle.tag.proofs.answering.needed.Reads as needed-reads
-use Rattle.tag.proofs.answering.refused.Reads as refused-reads
-use Rattle.tag.proofs.starting.stopped.Reads as stopped-reads
 
--- src/answering.rt:103:9
-bit-count-requires : tie.Need-bit-count-requires
-bit-count-requires c κs = search needs
-
--- src/answering.rt:104:22
 add-if1 : tie.Need-add-if1
 add-if1 c = record { fits = omega (arith, c .bit-count .ensures .1) }
 
--- src/answering.rt:105:9
-refused-requires : tie.Need-refused-requires
-refused-requires c κs = search needs
-
--- src/answering.rt:105:9
 returns : tie.Need-returns
 unfolding doneEnd
 returns c = rw (c .refused .ensures) (simp (← c .before .before .bit-count .ensures .0, lt-ltb _ _ (c .before .if1 .taken)))
 
--- src/answering.rt:107:19
-count-requires : tie.Need-count-requires
-count-requires c κs = search needs
-
--- src/answering.rt:107:12
 needed-requires : tie.Need-needed-requires
 needed-requires c κs = rw (c .count .ensures) (few-words _ _ (c .before .before .before .before .before .before .args .plan .change) (c .before .before .before .before .before .before .pre .0))
 
--- src/answering.rt:108:13
-make-requires : tie.Need-make-requires
-make-requires c κs = search needs
-
--- src/answering.rt:109:9
-stopped-requires : tie.Need-stopped-requires
-stopped-requires c κs = search needs
-
--- src/answering.rt:109:9
-same-length : tie.Need-same-length
-same-length c = search needs
-
--- src/answering.rt:109:9
 returns-2 : tie.Need-returns-2
 unfolding doneEnd
 returns-2 c = let a = c .before .before .before .before .before .before .before .before .before .before .before .before .before .args in
@@ -74,27 +37,6 @@ returns-2 c = let a = c .before .before .before .before .before .before .before 
     let k : c .before .before .before .make .result ≡ a .s = omega (arith, p .made, l) in
     rw (c .stopped .ensures, k, p .image) (simp (← c .before .before .before .before .before .before .before .before .before .bit-count .ensures .0, le-ltb _ _ (c .before .before .before .before .before .before .before .before .if1 .left), lt-ltb _ _ l))
 
--- src/answering.rt:111:5
-put-requires : tie.Need-put-requires
-put-requires c κs = search needs
-
--- src/answering.rt:112:9
-make-requires-2 : tie.Need-make-requires-2
-make-requires-2 c κs = search needs
-
--- src/answering.rt:115:18
-moved-requires : tie.Need-moved-requires
-moved-requires c κs = search needs
-
--- src/answering.rt:87:1
-same-length-2 : tie.Need-same-length-2
-same-length-2 c = search needs
-
--- src/answering.rt:87:1
-same-length-3 : tie.Need-same-length-3
-same-length-3 c = search needs
-
--- src/answering.rt:87:1
 returns-3 : tie.Need-returns-3
 unfolding doneEnd
 returns-3 c = let a = c .before .before .before .before .before .before .before .before .before .before .before .before .before .before .before .before .before .before .args in
@@ -110,20 +52,6 @@ returns-3 c = let a = c .before .before .before .before .before .before .before 
 pub give-done-spec : {M : Type 1} → statement M
 give-done-spec =
     tie.close
-    (tie.spec
-    bit-count-requires
-    add-if1
-    refused-requires
-    returns
-    count-requires
-    needed-requires
-    make-requires
-    stopped-requires
-    same-length
-    returns-2
-    put-requires
-    make-requires-2
-    moved-requires
-    same-length-2
-    same-length-3
-    returns-3)
+    (tie.spec (λ c κs. search needs) add-if1 (λ c κs. search needs) returns (λ c κs. search needs) needed-requires
+    (λ c κs. search needs) (λ c κs. search needs) (λ c. search needs) returns-2 (λ c κs. search needs)
+    (λ c κs. search needs) (λ c κs. search needs) (λ c. search needs) (λ c. search needs) returns-3)
