@@ -9,3 +9,4 @@ pub mod Steps
 pub mod Worked
 pub mod PortSteps
 pub mod Cases
+pub mod Wrong

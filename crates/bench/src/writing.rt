@@ -1,0 +1,227 @@
+// What is written, by way of a buffer: each function takes the place in it and gives the next.
+ghost use Prim.Native.Nat.{_<_};
+use libc::STDOUT_FILENO;
+use tag::Answer;
+use tag::Cover;
+use tag::Half;
+use tag::Link;
+use tag::Live;
+use tag::Outcome;
+use tag::Power;
+use tag::Register;
+use tag::Session;
+use tag::State;
+
+// One byte; a full buffer is written out first.
+fn byte(out: &mut [u8; 65536], at: usize, c: u8) -> usize {
+    if at < 65536 {
+        out[at] = c;
+        return at + 1;
+    }
+    io::write_all(STDOUT_FILENO, out);
+    out[0] = c;
+    1
+}
+
+// Writes out what the buffer holds.
+pub fn flush(out: &[u8], at: usize) {
+    if at <= out.len() {
+        io::write_all(STDOUT_FILENO, &out[0..at]);
+    }
+}
+
+pub fn text(out: &mut [u8; 65536], at: usize, words: &[u8]) -> usize {
+    let mut q = at;
+    let mut i = 0;
+    while i < words.len() {
+        q = byte(out, q, words[i]);
+        i += 1;
+    }
+    q
+}
+
+fn decimal(out: &mut [u8; 65536], at: usize, n: u64) -> usize {
+    let mut digits = [0u8; 20];
+    let k = io::decimal(n, &mut digits);
+    text(out, at, &digits[..k])
+}
+
+// A label and a number.
+pub fn labelled(out: &mut [u8; 65536], at: usize, label: &[u8], n: u64) -> usize {
+    let q = text(out, at, label);
+    decimal(out, q, n)
+}
+
+fn digit(d: u8) -> u8
+    requires { ⌜ d < 16 ⌝ }
+{
+    if d < 10 { 48 + d } else { 87 + d }
+}
+
+fn two_digits(out: &mut [u8; 65536], at: usize, c: u8) -> usize {
+    let q = byte(out, at, digit(c / 16));
+    byte(out, q, digit(c % 16))
+}
+
+// Bytes as hex, or - for none.
+pub fn hex(out: &mut [u8; 65536], at: usize, bytes: &[u8]) -> usize {
+    if bytes.len() == 0 {
+        return text(out, at, b"-");
+    }
+    let mut q = at;
+    let mut i = 0;
+    while i < bytes.len() {
+        q = two_digits(out, q, bytes[i]);
+        i += 1;
+    }
+    q
+}
+
+fn put_word(out: &mut [u8; 65536], at: usize, w: u16) -> usize {
+    let q = two_digits(out, at, (w / 256) as u8);
+    two_digits(out, q, (w % 256) as u8)
+}
+
+// An answer's number in the table.
+fn number(answer: Answer) -> u64 {
+    match answer {
+        Answer::Done => 0,
+        Answer::Short => 1,
+        Answer::Header => 2,
+        Answer::Content => 3,
+        Answer::NoRoom => 4,
+        Answer::NotReady => 5,
+        Answer::Port => 6,
+        Answer::Malformed => 7,
+        Answer::Checksum => 8,
+        Answer::Wrong => 9,
+        Answer::Error => 10,
+        Answer::PowerLost => 11,
+        Answer::Password => 12,
+        Answer::Count => 13,
+    }
+}
+
+fn put_cover(out: &mut [u8; 65536], at: usize, c: Cover) -> usize {
+    match c {
+        Cover::Nothing => text(out, at, b"-"),
+        Cover::Number(w) => put_word(out, at, w),
+    }
+}
+
+fn put_half(out: &mut [u8; 65536], at: usize, h: Half) -> usize {
+    match h {
+        Half::Nothing => text(out, at, b"-"),
+        Half::Access(w) => {
+            let q = text(out, at, b"access:");
+            put_word(out, q, w)
+        }
+        Half::Kill(w) => {
+            let q = text(out, at, b"kill:");
+            put_word(out, q, w)
+        }
+    }
+}
+
+// The handle, the cover number and the waiting half.
+fn put_link(out: &mut [u8; 65536], at: usize, k: Link) -> usize {
+    let c = k.cover;
+    let h = k.half;
+    let q = put_word(out, at, k.handle);
+    let q2 = byte(out, q, b' ');
+    let q3 = put_cover(out, q2, c);
+    let q4 = byte(out, q3, b' ');
+    put_half(out, q4, h)
+}
+
+fn put_state(out: &mut [u8; 65536], at: usize, s: State) -> usize {
+    match s {
+        State::Arbitrate => text(out, at, b"arbitrate - - -"),
+        State::Acknowledged(w) => {
+            let q = text(out, at, b"acknowledged ");
+            let q2 = put_word(out, q, w);
+            text(out, q2, b" - -")
+        }
+        State::Open(k) => {
+            let q = text(out, at, b"open ");
+            put_link(out, q, k)
+        }
+        State::Secured(k) => {
+            let q = text(out, at, b"secured ");
+            put_link(out, q, k)
+        }
+        State::Killed => text(out, at, b"killed - - -"),
+    }
+}
+
+// The register's two bits as a number.
+fn bits_of(r: Register) -> u64 {
+    if r.unwritten {
+        if r.killed {
+            return 3;
+        }
+        return 2;
+    }
+    if r.killed {
+        return 1;
+    }
+    0
+}
+
+fn put_live(out: &mut [u8; 65536], at: usize, l: Live) -> usize {
+    let s = l.state;
+    let r = l.register;
+    let q = put_state(out, at, s);
+    if l.held {
+        return labelled(out, q, b" held ", bits_of(r));
+    }
+    labelled(out, q, b" free ", bits_of(r))
+}
+
+fn put_session(out: &mut [u8; 65536], at: usize, s: Session) -> usize {
+    let q = text(out, at, b" session ");
+    let power = s.power;
+    match power {
+        Power::Off => text(out, q, b"off - - - free 0"),
+        Power::On(l) => put_live(out, q, l),
+    }
+}
+
+// An answer alone.
+pub fn put_answer(out: &mut [u8; 65536], at: usize, a: Answer) -> usize {
+    labelled(out, at, b"answer ", number(a))
+}
+
+// A call's answer, stores and reply, with the room afterwards.
+fn call(out: &mut [u8; 65536], at: usize, o: Outcome, room: &[u8]) -> usize {
+    let a = o.answer;
+    let q = put_answer(out, at, a);
+    let q2 = labelled(out, q, b" stores ", o.stores as u64);
+    let q3 = labelled(out, q2, b" reply ", o.reply as u64);
+    let q4 = byte(out, q3, b' ');
+    hex(out, q4, room)
+}
+
+// The session afterwards, to the line's end.
+fn ending(out: &mut [u8; 65536], at: usize, o: Outcome) -> usize {
+    let s = o.session;
+    let q = put_session(out, at, s);
+    byte(out, q, b'\n')
+}
+
+// A call's whole line.
+pub fn put_outcome(out: &mut [u8; 65536], at: usize, o: Outcome, room: &[u8]) -> usize {
+    let q = call(out, at, o, room);
+    ending(out, q, o)
+}
+
+// The line of the register's reading: its value stands there where the answer is 0.
+pub fn reading(out: &mut [u8; 65536], at: usize, o: Outcome) -> usize {
+    let a = o.answer;
+    let q = call(out, at, o, b"");
+    if number(a) == 0 {
+        let q2 = labelled(out, q, b" value ", o.value as u64);
+        return ending(out, q2, o);
+    }
+    ending(out, q, o)
+}

@@ -1,0 +1,234 @@
+#!/usr/bin/env python3
+"""Holds the model to the worked cases of the rules and to what bench's list says of itself."""
+
+import random
+
+import build
+import makelist
+import model
+from build import BANK_EPC, BANK_USER, Image
+
+ENOUGH = build.ENOUGH
+HANDLE = 0xA5C3
+COVER = 0x0F1E
+
+
+# --------------------------------------------------------------------------
+# The worked cases
+# --------------------------------------------------------------------------
+
+# A bench on this image, in Secured with a handle and a cover number.
+def secured_bench(image):
+    bench = model.Bench()
+    for text in (build.image_line(image.bytes()), "power 9", "admit 1234",
+                 build.frame_line(build.req_rn(0x1234), fresh=HANDLE),
+                 build.frame_line(build.req_rn(HANDLE), fresh=COVER)):
+        bench.line(text.encode())
+    assert bench.session == model.Session("secured", HANDLE, COVER)
+    return bench
+
+
+# The answer to one frame.
+def send(bench, bits, **parts):
+    bench.line(build.frame_line(bits, **parts).encode())
+    return bench.answer
+
+
+# The code of an error reply.
+def code_of(answer):
+    assert answer.number == 10 and answer.reply[0] == "1" and len(answer.reply) == 41
+    return int(answer.reply[1:9], 2)
+
+
+def crc_cases():
+    assert model.crc16("") == 0x0000                                    # P1
+    assert model.crc16(16 * "0") == 0xE2F0                              # P2
+    assert model.crc16(16 * "1") == 0xFFFF                              # P3
+    chance = random.Random(5)
+    for _ in range(300):
+        bits = "".join(chance.choice("01") for _ in range(chance.randrange(200)))
+        assert model.crc16(bits) == build.crc(bits)
+        assert model.crc16(model.with_crc(bits)) == 0x1D0F ^ 0xFFFF     # the residue
+
+
+def ebv_cases():
+    def value(*groups):
+        bits = "".join(model.bits_of(group, 8) for group in groups)
+        return model.Reader(bits).take_ebv()
+    assert value(0x7F) == (127, 1)                                      # P4
+    assert value(0x81, 0x6A) == (234, 2)                                # P5
+    assert value(0x80, 0x05) == (5, 2)                                  # P6
+    assert value(0x80, 0x80, 0x05) == (5, 3)
+    assert value(0xFF, 0xFF, 0x7F) == (0x1FFFFF, 3)
+    for groups in ((), (0x80,), (0x80, 0x80, 0x80), (0x80, 0x80, 0x80, 0x05)):
+        try:
+            value(*groups)
+        except model.Refused as refusal:
+            assert refusal.number == 7
+        else:
+            raise AssertionError(groups)
+
+
+def small_image_cases():
+    words = Image().words()
+    assert words[:16] == [7, 4, 16, 2, 18, 4, 22, 4, 26, 2, 28, 16, 44, 1, 45, 33]
+    layout = model.check_image(Image().bytes())
+    assert len(words) == 78 and layout.blocks == 4 and layout.pairs == 16
+    assert [layout.offset[name] for name in model.SECTIONS] == [16, 18, 22, 26, 28, 44, 45]
+    largest = Image(block_size=16, reserved=64 * [0], epc=33 * [0], tid=64 * [0],
+                    user=4096 * [0], perma=16 * [0], pairs=255)
+    assert len(largest.words()) == 4802 and model.check_image(largest.bytes())
+
+
+def write_cases():
+    bits = build.write(BANK_USER, 3, 0xABCD, COVER, HANDLE)
+    bench = secured_bench(Image())
+    answer = send(bench, bits)
+    assert answer.number == 0                                           # P7
+    assert answer.made == [(46, 31), (47, 0xABCD), (45, 1), (31, 0xABCD), (45, 0)]
+    assert answer.reply == build.sealed("0" + build.field_bits(HANDLE, 16))
+    for cut, after in ((2, 10), (3, 0xABCD)):                           # P8, P9
+        bench = secured_bench(Image())
+        answer = send(bench, bits, s=cut)
+        assert answer.number == 11 and len(answer.made) == cut
+        assert bench.session == model.OFF_SESSION
+        bench.line(b"power 9")
+        assert bench.answer.number == 0 and model.word(bench.image, 31) == after
+
+
+def lock_cases():
+    bench = secured_bench(Image(lock=0x003))
+    answer = send(bench, build.lock(0x021, 0x021, HANDLE))
+    assert answer.number == 0 and model.word(bench.image, 16) == 0x023  # P10
+    bench = secured_bench(Image(lock=0x003))
+    answer = send(bench, build.lock(0x001, 0x000, HANDLE))
+    assert code_of(answer) == 0x04 and answer.made == []                # P11
+    assert model.word(bench.image, 16) == 0x003
+
+
+def spi_case():
+    bench = model.Bench()
+    for text in (build.image_line(Image(perma=[0x8000]).bytes()), "power 9", "ask"):
+        bench.line(text.encode())
+    bench.line(b"write 2 aaaabbbbccccdddd 8")                           # P12
+    assert bench.answer.number == 0 and bench.session.register == 2
+    assert bench.answer.made == [(46, 32), (47, 0xCCCC), (48, 33), (49, 0xDDDD), (45, 2),
+                                 (32, 0xCCCC), (33, 0xDDDD), (45, 0)]
+    assert [model.word(bench.image, n) for n in range(30, 34)] == [6, 10, 0xCCCC, 0xDDDD]
+
+
+def limit_cases():
+    bench = secured_bench(Image())
+    assert send(bench, build.write(BANK_USER, 15, 1, COVER, HANDLE)).number == 0
+    bench = secured_bench(Image())
+    assert code_of(send(bench, build.write(BANK_USER, 16, 1, COVER, HANDLE))) == 0x03
+    bench = secured_bench(Image())
+    assert send(bench, build.block_write(BANK_USER, 0, 16 * [1], HANDLE)).number == 0
+    assert code_of(send(bench, build.block_write(BANK_USER, 0, 17 * [1], HANDLE))) == 0x03
+    bench = secured_bench(Image())
+    assert send(bench, build.write(BANK_EPC, 1, 2 << 11, COVER, HANDLE)).number == 0
+    bench = secured_bench(Image())
+    assert code_of(send(bench, build.write(BANK_EPC, 1, 3 << 11, COVER, HANDLE))) == 0x03
+
+
+# --------------------------------------------------------------------------
+# The lines' own limits
+# --------------------------------------------------------------------------
+
+def line_cases():
+    assert model.run(b"") == b""
+    assert model.run(b"\n\n# x\n") == b""
+    assert model.run(b"dump") == b"image -\n"
+    assert model.run(b"\n#\ndump \ndump") == b"bad line 3\nimage -\n"
+    assert model.run(b"#" + 19999 * b"x" + b"\n") == b""
+    assert model.run(b"#" + 20000 * b"x" + b"\n") == b"bad line 1\n"
+    assert model.run(b"image " + 9604 * b"00") == b"image 9604\n"
+    assert model.run(b"image " + 9605 * b"00") == b"bad line 1\n"
+
+
+# --------------------------------------------------------------------------
+# The list of bench
+# --------------------------------------------------------------------------
+
+# The parts of a line that the model wrote, by the keys of '#>'.
+def parts_of(written, text):
+    words = written.split(" ")
+    if words[0] == "bad":
+        return {"bad": "1"}
+    if words[0] == "image":
+        if text == b"dump":
+            return {"bytes": str(len(model.read_hex(words[1].encode()))), "image": words[1]}
+        return {"bytes": words[1]}
+    parts = {"answer": words[1]}
+    if len(words) == 2:
+        return parts
+    parts.update(stores=words[3], reply=words[5])
+    if words[7] == "value":
+        parts["value"] = words[8]
+    for key, part in zip(("state", "number", "cover", "half", "port", "register"), words[-6:]):
+        parts[key] = part
+    bits = model.bits_of_bytes(model.read_hex(words[6].encode()))[:int(words[5])]
+    if words[1] == "10":
+        parts["code"] = "%02x" % int(bits[1:9], 2)
+    data = bits if text.startswith(b"read") else bits[1:-32]
+    parts["data"] = ",".join("%04x" % int(data[k:k + 16], 2) for k in range(0, len(data) - 15, 16))
+    return parts
+
+
+# Whether the parts are as a '#>' line says.
+def check_expected(expected, parts, where):
+    pairs = expected.split(" ")
+    for key, value in zip(pairs[0::2], pairs[1::2]):
+        if key == "word":
+            offset, wanted = value.split(":")
+            found = parts["image"][4 * int(offset):4 * int(offset) + 4]
+            assert found == wanted, (where, value, found)
+        else:
+            assert parts.get(key) == value, (where, key, value, parts)
+
+
+# The code of a frame line's command, where it has one.
+def command_of(text):
+    data = text.split(b" ")[2]
+    return int(data[:2], 16) if data != b"-" else None
+
+
+# The error codes that each command can give.
+POSSIBLE_CODES = {
+    (model.READ, "03"), (model.READ, "04"), (model.WRITE, "03"), (model.WRITE, "04"),
+    (model.KILL, "00"), (model.LOCK, "04"), (model.BLOCK_WRITE, "00"),
+    (model.BLOCK_WRITE, "03"), (model.BLOCK_WRITE, "04"), (model.BLOCK_ERASE, "00"),
+    (model.BLOCK_ERASE, "03"), (model.BLOCK_ERASE, "04"), (model.BLOCK_PERMALOCK, "03"),
+    (model.BLOCK_PERMALOCK, "04")}
+
+
+def list_cases():
+    with open(makelist.LIST, "rb") as source:
+        content = source.read()
+    assert content == makelist.whole_list().encode("utf-8"), "crates/bench/stdin is not as makelist.py writes it"
+    bench, expected, held = model.Bench(), None, 0
+    answers, codes = set(), set()
+    for number, text in enumerate(model.lines_of(content), 1):
+        written = bench.line(text)
+        if text.startswith(b"#> "):
+            expected = text[3:].decode()
+        if written is None:
+            continue
+        parts = parts_of(written, text)
+        assert expected is not None, number
+        check_expected(expected, parts, number)
+        expected, held = None, held + 1
+        answers.add(parts.get("answer"))
+        if "code" in parts:
+            codes.add((command_of(text), parts["code"]))
+    assert {str(n) for n in range(14)} <= answers
+    assert codes == POSSIBLE_CODES, codes ^ POSSIBLE_CODES
+    return held
+
+
+if __name__ == "__main__":
+    for case in (crc_cases, ebv_cases, small_image_cases, write_cases, lock_cases, spi_case,
+                 limit_cases, line_cases):
+        case()
+        print("good:", case.__name__)
+    print("good: the list of bench, %d lines held to what they must bring" % list_cases())
