@@ -1,8 +1,6 @@
 -- `tag::port::bad_count` meets its contract: the first of three tests that holds. Assumes nothing.
-use mathlib.Core.Bool.{true}
 use Rattle.tag.proofs.Ports.{or-first, or-second, or-third}
 use borrow.Author.Tests.{eq-eqb, ne-eqb, lt-ltb, le-ltb}
-use lib.Dec.{eqb, ltb}
 use native.Mathlib.Omega.{arith}
 use Prim.Native.Nat.{_+_}
 use borrow.Author.Needs.{needs}

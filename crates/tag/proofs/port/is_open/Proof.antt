@@ -1,7 +1,6 @@
 -- `tag::port::is_open` meets its contract: the access password's two words, then the pwd bit. Assumes nothing.
 use Rattle.tag.proofs.Ports.{closed-upper, closed-lower, open-by-bit}
 use denote.Ref.{now}
-use borrow.Author.Tests.{eq-eqb, ne-eqb}
 use native.Mathlib.Omega.{arith}
 use mathlib.Core.Path.{sym, _∙_}
 use borrow.Author.Needs.{needs}
