@@ -4,3 +4,4 @@ pub mod Digits
 pub mod Below
 pub mod Stores
 pub mod Windows
+pub mod Fields

@@ -1,3 +1,4 @@
 pub mod Pointers
 pub mod Codes
 pub mod Laws
+pub mod Orders

@@ -158,6 +158,14 @@ module _ (y : Layout) (h : List ℕ) (g : Header y h) where
       high (yes a) = simp (inside-test (y .user) o (omega arith) (omega arith), or-true)
       high (no a) = simp (inside-test (y .perma) o (omega arith) (omega arith), or-true)
 
+  pub go-low : (o : ℕ) → 16 ≤ o → o < y .tid .at → mayGo y o ≡ true
+  unfolding Two
+  go-low o a b = two-go o (inl (a, b))
+
+  pub go-high : (o : ℕ) → y .user .at ≤ o → o < y .work .at → mayGo y o ≡ true
+  unfolding Two
+  go-high o a b = two-go o (inr (a, b))
+
   between-fact : (a o b : ℕ) → between a o b ≡ true → (a ≤ o) × (o < b)
   between-fact a o b e = (leb-true _ _ (and-left (leb a o) (ltb o b) e), ltb-true _ _ (and-right (leb a o) (ltb o b) e))
 

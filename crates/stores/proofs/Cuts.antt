@@ -2,7 +2,7 @@
 -- to what it would have come to. Assumes nothing.
 use Prim.Native.Nat.{ℕ, zero, suc, _+_, _-_, _*_, _≤_, _<_}
 use mathlib.Core.Path.{_≡_, refl, sym, ap, ap₂, _∙_, subst}
-use mathlib.Core.Logic.{_≢_}
+use mathlib.Core.Logic.{_≢_, _⊎_, inl, inr, ⊎-map}
 use mathlib.Core.Bool.{Bool, true, false, cond}
 use mathlib.Core.List.{List, [], _∷_, _++_, append-assoc}
 use native.Mathlib.Omega.{arith}
@@ -76,26 +76,39 @@ module _ (y : Layout) (h : List ℕ) (g : Good y h) where
       last : y .epc .at + 1 ≡ end (y .perma) → ⊥
       last q = omega (arith, g .header .epc .least, g .header .tid .at, g .header .user .at, g .header .perma .at)
 
+  -- the pending words lie below WORK, so storing some of them leaves them pending
+  pending-stays : (m : List ℕ) (k : ℕ) → Sane y h m → (i : ℕ) → y .work .at ≤ i → wordAt (after m (take k (pending y m))) i ≡ wordAt m i
+  pending-stays m k s i l =
+      after-avoids m (take k (pending y m)) i
+      (under-avoids (y .work .at) i (take k (pending y m)) l (all-take (λ x. x .at < y .work .at) k (pending y m) (goes-under y h hd (pending y m) (s .goes))))
+
+  still-pending : (m : List ℕ) (k : ℕ) → Sane y h m → pending y (after m (take k (pending y m))) ≡ pending y m
+  still-pending m k s = pending-same y m (after m (take k (pending y m))) (pending-stays m k s)
+
   -- where some of the pending words are stored
   partly : (m : List ℕ) (k : ℕ) → Sane y h m → Follows y h m (after m (take k (pending y m)))
   partly m k s = (
     record {
       size = length-after m (take k (pending y m)) ∙ s .size;
       words = after-fine (Stays y h) (y .work .at) m (take k (pending y m)) (omega (arith, size-of m s)) (all-take (λ x. Stays y h (x .at) (x .value)) k (pending y m) (s .fits)) (s .words);
-      count = rw (keeps (y .work .at) (omega arith)) (s .count);
-      goes = subst (λ (ss : List Store). Goes y ss) (sym same) (s .goes);
-      fits = subst (λ (ss : List Store). Fits (Stays y h) ss) (sym same) (s .fits);
+      count = rw (pending-stays m k s (y .work .at) (omega arith)) (s .count);
+      goes = subst (λ (ss : List Store). Goes y ss) (sym (still-pending m k s)) (s .goes);
+      fits = subst (λ (ss : List Store). Fits (Stays y h) ss) (sym (still-pending m k s)) (s .fits);
     },
-    λ i l d. ap (λ (ss : List Store). wordAt (after (after m (take k (pending y m))) ss) i) same ∙ after-again m k (pending y m) i (omega (arith, size-of m s)),
+    λ i l d. ap (λ (ss : List Store). wordAt (after (after m (take k (pending y m))) ss) i) (still-pending m k s) ∙ after-again m k (pending y m) i (omega (arith, size-of m s)),
   )
-    where
-      keeps : (i : ℕ) → y .work .at ≤ i → wordAt (after m (take k (pending y m))) i ≡ wordAt m i
-      keeps i l =
-          after-avoids m (take k (pending y m)) i
-          (under-avoids (y .work .at) i (take k (pending y m)) l (all-take (λ x. x .at < y .work .at) k (pending y m) (goes-under y h hd (pending y m) (s .goes))))
 
-      same : pending y (after m (take k (pending y m))) ≡ pending y m
-      same = pending-same y m (after m (take k (pending y m))) keeps
+  -- while they are stored they are all pending, or none is
+  settling-pending : (m : List ℕ) (k : ℕ) → Sane y h m
+      → (pending y (after m (take k (settling y m))) ≡ pending y m) ⊎ (pending y (after m (take k (settling y m))) ≡ [])
+  settling-pending m k s = go (decLe k (length (pending y m)))
+    where
+      go : Dec (k ≤ length (pending y m)) → (pending y (after m (take k (settling y m))) ≡ pending y m) ⊎ (pending y (after m (take k (settling y m))) ≡ [])
+      go (yes l) = inl (ap (λ (ss : List Store). pending y (after m ss)) (take-finished (y .work .at) (pending y m) k l) ∙ still-pending m k s)
+      go (no l) =
+          inr
+          (ap (λ (ss : List Store). pending y (after m ss)) (take-all k (settling y m) (omega (arith, length-finished (y .work .at) (pending y m))))
+          ∙ none-pending y (after m (settling y m)) (finished-clears y m (omega (arith, size-of m s, hd .work .least))))
 
   settling-fine : (m : List ℕ) → Sane y h m → Fine (y .work .at) (Stays y h) (after m (settling y m))
   settling-fine m s i l =
@@ -135,29 +148,49 @@ module _ (y : Layout) (h : List ℕ) (g : Good y h) where
           (after-fine (Stays y h) (y .work .at) m (pending y m) (omega (arith, size-of m s)) (s .fits) (s .words)) a
       go false q = a i l (eqb-false i (y .epc .at) q)
 
-  -- a power-up cut anywhere, and one after the other
+  -- what a power-up stores last
+  sum : List ℕ → List Store
+  sum m = store (y .epc .at) (epcCrc y (after m (settling y m))) ∷ []
+
+  sum-past : (m : List ℕ) (j i : ℕ) → i ≢ y .epc .at → wordAt (after m (settling y m ++ take j (sum m))) i ≡ wordAt (after m (settling y m)) i
+  unfolding sum
+  sum-past m j i n = rw after-append (after-avoids (after m (settling y m)) (take j (sum m)) i (all-take (λ x. i ≢ x .at) j (sum m) (n, tt)))
+
+  sum-clears : (m : List ℕ) (j : ℕ) → Sane y h m → countIn y (after m (settling y m ++ take j (sum m))) ≡ 0
+  sum-clears m j s =
+      sum-past m j (y .work .at) (omega (arith, hd .epc .least, hd .tid .at, hd .user .at, hd .perma .at, hd .work .at))
+      ∙ finished-clears y m (omega (arith, size-of m s, hd .work .least))
+
+  -- a power-up cut anywhere
   cut-follows : (m : List ℕ) (k : ℕ) → Sane y h m → Follows y h m (after m (take k (powerStores y m)))
-  unfolding powerStores
+  unfolding powerStores sum
   cut-follows m k s = go (decLe k (length (settling y m)))
     where
-      sum : List Store
-      sum = store (y .epc .at) (epcCrc y (after m (settling y m))) ∷ []
-
-      past : (j i : ℕ) → i ≢ y .epc .at → wordAt (after m (settling y m ++ take j sum)) i ≡ wordAt (after m (settling y m)) i
-      past j i n = rw after-append (after-avoids (after m (settling y m)) (take j sum) i (all-take (λ x. i ≢ x .at) j sum (n, tt)))
-
-      late : (j : ℕ) → Follows y h m (after m (settling y m ++ take j sum))
+      late : (j : ℕ) → Follows y h m (after m (settling y m ++ take j (sum m)))
       late j =
-          cleared y h m (after m (settling y m ++ take j sum)) (length-after m (settling y m ++ take j sum) ∙ s .size)
-          (past j (y .work .at) (omega arith) ∙ finished-clears y m (omega (arith, size-of m s, hd .work .least)))
+          cleared y h m (after m (settling y m ++ take j (sum m))) (length-after m (settling y m ++ take j (sum m)) ∙ s .size)
+          (sum-clears m j s)
           (λ i l. rw after-append
-          (after-fine (Stays y h) (y .work .at) (after m (settling y m)) (take j sum) (rw length-after (omega (arith, size-of m s)))
-          (all-take (λ x. Stays y h (x .at) (x .value)) j sum (epc-free _, tt)) (settling-fine m s) i l))
-          (λ i l n. past j i n ∙ finished-other (y .work .at) m (pending y m) i l)
+          (after-fine (Stays y h) (y .work .at) (after m (settling y m)) (take j (sum m)) (rw length-after (omega (arith, size-of m s)))
+          (all-take (λ x. Stays y h (x .at) (x .value)) j (sum m) (epc-free _, tt)) (settling-fine m s) i l))
+          (λ i l n. sum-past m j i n ∙ finished-other (y .work .at) m (pending y m) i l)
 
-      go : Dec (k ≤ length (settling y m)) → Follows y h m (after m (take k (settling y m ++ sum)))
-      go (yes l) = rw (take-append-le k (settling y m) sum l) (settling-follows m k s)
-      go (no l) = rw (take-late (settling y m) sum k (omega arith)) (late (k - length (settling y m)))
+      go : Dec (k ≤ length (settling y m)) → Follows y h m (after m (take k (settling y m ++ sum m)))
+      go (yes l) = rw (take-append-le k (settling y m) (sum m) l) (settling-follows m k s)
+      go (no l) = rw (take-late (settling y m) (sum m) k (omega arith)) (late (k - length (settling y m)))
+
+  power-pending : (m : List ℕ) (k : ℕ) → Sane y h m
+      → (pending y (after m (take k (powerStores y m))) ≡ pending y m) ⊎ (pending y (after m (take k (powerStores y m))) ≡ [])
+  unfolding powerStores sum
+  power-pending m k s = go (decLe k (length (settling y m)))
+    where
+      go : Dec (k ≤ length (settling y m))
+          → (pending y (after m (take k (settling y m ++ sum m))) ≡ pending y m) ⊎ (pending y (after m (take k (settling y m ++ sum m))) ≡ [])
+      go (yes l) = rw (take-append-le k (settling y m) (sum m) l) (settling-pending m k s)
+      go (no l) =
+          inr
+          (ap (λ (ss : List Store). pending y (after m ss)) (take-late (settling y m) (sum m) k (omega arith))
+          ∙ none-pending y (after m (settling y m ++ take (k - length (settling y m)) (sum m))) (sum-clears m (k - length (settling y m)) s))
 
   layout-of : (m : List ℕ) → Sane y h m → y ≡ layoutOf m
   layout-of m s = sane-good y h m g s .layout
@@ -190,18 +223,25 @@ module _ (y : Layout) (m : List ℕ) (ss : List Store) (g : Good y m) (z : count
   sane = good-sane y m g
 
   -- cut while the pairs are staged
+  old-split : (k : ℕ) → k ≤ 2 * length ss → take k (changeStores (y .work .at) ss) ≡ take k (staged (y .work .at + 1) ss)
+  old-split k l =
+      rw (stores-of (y .work .at) ss (c .some))
+      (take-append-le k (staged (y .work .at + 1) ss) (store (y .work .at) (length ss) ∷ finished (y .work .at) ss) (omega (arith, length-staged (y .work .at + 1) ss)))
+
+  old-words : (k : ℕ) → k ≤ 2 * length ss → (i : ℕ) → i < y .work .at + 1 → wordAt (after m (take k (changeStores (y .work .at) ss))) i ≡ wordAt m i
+  old-words k l i b =
+      rw (old-split k l)
+      (after-avoids m (take k (staged (y .work .at + 1) ss)) i
+      (all-take (λ x. i ≢ x .at) k (staged (y .work .at + 1) ss) (staged-avoids i (y .work .at + 1) ss b)))
+
+  old-count : (k : ℕ) → k ≤ 2 * length ss → countIn y (after m (take k (changeStores (y .work .at) ss))) ≡ 0
+  old-count k l = old-words k l (y .work .at) (omega arith) ∙ z
+
   old-follows : (k : ℕ) → k ≤ 2 * length ss → Follows y m m (after m (take k (changeStores (y .work .at) ss)))
   old-follows k l =
-      rw (stores-of (y .work .at) ss (c .some), take-append-le k (staged (y .work .at + 1) ss) (store (y .work .at) (length ss) ∷ finished (y .work .at) ss) (omega (arith, length-staged (y .work .at + 1) ss)))
-      (cleared y m m (after m (take k (staged (y .work .at + 1) ss))) (length-after m (take k (staged (y .work .at + 1) ss)))
-      (same (y .work .at) (omega arith) ∙ z)
-      (λ i l. rw (same i (omega arith)) (sane .words i l))
-      (λ i l d. same i (omega arith) ∙ sym (ap (λ (xs : List Store). wordAt (after m xs) i) (none-pending y m z))))
-    where
-      same : (i : ℕ) → i < y .work .at + 1 → wordAt (after m (take k (staged (y .work .at + 1) ss))) i ≡ wordAt m i
-      same i l =
-          after-avoids m (take k (staged (y .work .at + 1) ss)) i
-          (all-take (λ x. i ≢ x .at) k (staged (y .work .at + 1) ss) (staged-avoids i (y .work .at + 1) ss l))
+      cleared y m m (after m (take k (changeStores (y .work .at) ss))) (length-after m (take k (changeStores (y .work .at) ss))) (old-count k l)
+      (λ i b. rw (old-words k l i (omega arith)) (sane .words i b))
+      (λ i b d. old-words k l i (omega arith) ∙ sym (ap (λ (xs : List Store). wordAt (after m xs) i) (none-pending y m z)))
 
   -- the image right after the count is stored
   committed : List ℕ
@@ -279,6 +319,16 @@ module _ (y : Layout) (m : List ℕ) (ss : List Store) (g : Good y m) (z : count
       (follows-trans y m (after m ss) committed (after committed (take (k - (2 * length ss + 1)) (settling y committed))) committed-follows
       (settling-follows y m g committed (k - (2 * length ss + 1)) committed-sane))
 
+  change-pending : (k : ℕ) → (pending y (after m (take k (changeStores (y .work .at) ss))) ≡ ss) ⊎ (pending y (after m (take k (changeStores (y .work .at) ss))) ≡ [])
+  change-pending k = go (decLe k (2 * length ss))
+    where
+      go : Dec (k ≤ 2 * length ss)
+          → (pending y (after m (take k (changeStores (y .work .at) ss))) ≡ ss) ⊎ (pending y (after m (take k (changeStores (y .work .at) ss))) ≡ [])
+      go (yes l) = inr (none-pending y (after m (take k (changeStores (y .work .at) ss))) (old-count k l))
+      go (no l) =
+          rw (new-split k (omega arith))
+          (⊎-map (λ e. e ∙ committed-pending) (λ e. e) (settling-pending y m g committed (k - (2 * length ss + 1)) committed-sane))
+
   any-sane : (k : ℕ) → Dec (k ≤ 2 * length ss) → Sane y m (after m (take k (changeStores (y .work .at) ss)))
   any-sane k (yes l) = old-follows k l .0
   any-sane k (no l) = new-follows k (omega arith) .0
@@ -295,3 +345,19 @@ module _ (y : Layout) (m : List ℕ) (ss : List Store) (g : Good y m) (z : count
 
 pub cuts : Cuts
 cuts y m ss g z c = laws y m ss g z c
+
+-- what is pending after a cut: the change's words or none; of a power-up, all that was or none, and none after a whole one
+pub cut-pending : (y : Layout) (m : List ℕ) (ss : List Store) → Good y m → countIn y m ≡ 0 → Change y m ss → (k : ℕ)
+    → (pending y (after m (take k (changeStores (y .work .at) ss))) ≡ ss) ⊎ (pending y (after m (take k (changeStores (y .work .at) ss))) ≡ [])
+cut-pending y m ss g z c k = change-pending y m ss g z c k
+
+pub power-cut-pending : (y : Layout) (m : List ℕ) → Good y m → (k : ℕ)
+    → (pending y (after m (take k (powerStores y m))) ≡ pending y m) ⊎ (pending y (after m (take k (powerStores y m))) ≡ [])
+power-cut-pending y m g k = power-pending y m g m k (good-sane y m g)
+
+pub power-cut-good : (y : Layout) (m : List ℕ) → Good y m → (k : ℕ) → Good y (after m (take k (powerStores y m)))
+power-cut-good y m g k = sane-good y m (after m (take k (powerStores y m))) g (cut-follows y m g m k (good-sane y m g) .0)
+
+pub power-settles : (y : Layout) (m : List ℕ) → Good y m → countIn y (after m (powerStores y m)) ≡ 0
+unfolding powerStores sum
+power-settles y m g = sum-clears y m g m 1 (good-sane y m g)

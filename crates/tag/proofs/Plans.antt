@@ -6,10 +6,11 @@ use mathlib.Core.List.{List}
 use native.Mathlib.Omega.{arith}
 use lib.Dec.{eqb, leb, ltb}
 use lib.ListN.{length}
-use borrow.Author.Tests.{ltb-false, leb-false}
+use borrow.Author.Tests.{ltb-false, leb-false, not-false}
 use Rattle.image.specs.declared.Section.{Section}
 use Rattle.image.specs.declared.Layout.{Layout}
 use Rattle.image.specs.Layout.{end, blocksIn, pairsIn}
+use Rattle.image.specs.Content.{lockWord}
 use Rattle.image.specs.Rules.{Header}
 use Rattle.frames.specs.declared.Span.{Span}
 use Rattle.frames.specs.declared.Order.{Order}
@@ -17,8 +18,9 @@ use Rattle.frames.specs.declared.Order.the-variants as order
 use Rattle.replies.specs.Replies.{replyEnd}
 use Rattle.rights.specs.declared.Code.{Code}
 use Rattle.rights.specs.declared.Code.the-variants as code
+use Rattle.bits.specs.Bits.{bitAt}
 use Rattle.bits.specs.Below.{every}
-use Rattle.rights.specs.Rights.{bankOf, beyond, mayWrite, badPc, spanWords, readCode, writeCode, notPerma, permaReadCode, permaCode}
+use Rattle.rights.specs.Rights.{bankOf, beyond, mayWrite, badPc, spanWords, readCode, writeCode, lockedTo, pairBreaks, lockCode, notPerma, permaReadCode, permaCode}
 use Rattle.changes.specs.Changes.{Holds, Makes, wordsOf}
 use Rattle.tag.specs.declared.Half.{Half}
 use Rattle.tag.specs.declared.Half.the-variants as half
@@ -56,7 +58,7 @@ module _ (y : Layout) (h : List ℕ) (g : Header y h) where
       go false false true = omega arith
       go false false false = omega arith
 
-  within-bank : (s : Span) → beyond y s ≡ false → (s .pointer < bankOf y (s .bank) .words) × (s .pointer + s .count ≤ bankOf y (s .bank) .words)
+  pub within-bank : (s : Span) → beyond y s ≡ false → (s .pointer < bankOf y (s .bank) .words) × (s .pointer + s .count ≤ bankOf y (s .bank) .words)
   within-bank s e =
       let b = none-or (leb (bankOf y (s .bank) .words) (s .pointer)) (ltb (bankOf y (s .bank) .words) (s .pointer + s .count)) e in
       (leb-false _ _ (b .0), ltb-false _ _ (b .1))
@@ -64,7 +66,7 @@ module _ (y : Layout) (h : List ℕ) (g : Header y h) where
   work-small : y .work .at < 65536
   work-small = omega arith
 
-  perma-small : y .perma .words ≤ 16
+  pub perma-small : y .perma .words ≤ 16
   perma-small = omega (arith, g .blocks, g .perma .most)
 
   held : (o n : ℕ) → o + n ≤ y .work .at → n ≤ pairsIn y → Holds (y .work .at) o n (length h)
@@ -82,13 +84,14 @@ module _ (y : Layout) (h : List ℕ) (g : Header y h) where
   unfolding readCode
   read-rows m q s e = none-row _ _ _ e .0
 
-  write-rows : (m : List ℕ) (q : Bool) (s : Span) (pc : ℕ) → writeCode y m q s pc ≡ code.Nothing → (beyond y s ≡ false) × (s .count ≤ pairsIn y)
+  pub write-rows : (m : List ℕ) (q : Bool) (s : Span) (pc : ℕ) → writeCode y m q s pc ≡ code.Nothing
+      → (beyond y s ≡ false) × (s .count ≤ pairsIn y) × (every (λ j. mayWrite y m q (s .bank) (s .pointer + j)) (s .count) ≡ true) × (badPc y s pc ≡ false)
   unfolding writeCode
   write-rows m q s pc e =
       let a = none-row (beyond y s) 3 _ e in
       let b = none-row (not (every (λ j. mayWrite y m q (s .bank) (s .pointer + j)) (s .count))) 4 _ (a .1) in
       let c = none-row (badPc y s pc) 3 _ (b .1) in
-      (a .0, ltb-false _ _ (none-row (ltb (pairsIn y) (s .count)) 0 code.Nothing (c .1) .0))
+      (a .0, ltb-false _ _ (none-row (ltb (pairsIn y) (s .count)) 0 code.Nothing (c .1) .0), not-false _ (b .0), c .0)
 
   perma-fit : (s : Span) → notPerma y s ≡ false → s .pointer + s .count ≤ y .perma .words
   perma-fit s e = ltb-false _ _ (none-or (not (eqb (s .bank) 3)) (ltb (y .perma .words) (s .pointer + s .count)) e .1)
@@ -97,9 +100,18 @@ module _ (y : Layout) (h : List ℕ) (g : Header y h) where
   unfolding permaReadCode
   read-perma-rows s e = perma-fit s (none-row _ _ _ e .0)
 
-  perma-rows : (m : List ℕ) (s : Span) (f : List ℕ) (p : ℕ) → permaCode y m s f p ≡ code.Nothing → s .pointer + s .count ≤ y .perma .words
+  pub perma-rows : (m : List ℕ) (s : Span) (f : List ℕ) (p : ℕ) → permaCode y m s f p ≡ code.Nothing
+      → (s .pointer + s .count ≤ y .perma .words) × (every (λ k. eqb (bitAt f (p + k)) 0 || ltb (16 * s .pointer + k) (blocksIn y)) (16 * s .count) ≡ true)
   unfolding permaCode
-  perma-rows m s f p e = perma-fit s (none-row _ _ _ e .0)
+  perma-rows m s f p e =
+      let a = none-row (notPerma y s) 3 _ e in
+      let b = none-row (not (every (λ k. eqb (bitAt f (p + k)) 0 || ltb (16 * s .pointer + k) (blocksIn y)) (16 * s .count))) 3 _ (a .1) in
+      (perma-fit s (a .0), not-false _ (b .0))
+
+  pub lock-rows : (m : List ℕ) (mask action : ℕ) → lockCode y m mask action ≡ code.Nothing
+      → every (λ k. not (pairBreaks (lockWord y m) (lockedTo (lockWord y m) mask action) k)) 5 ≡ true
+  unfolding lockCode
+  lock-rows m mask action e = not-false _ (none-row (not (every (λ k. not (pairBreaks (lockWord y m) (lockedTo (lockWord y m) mask action) k)) 5)) 4 _ e .0)
 
   span-end : (s : Span) → beyond y s ≡ false → s .pointer + spanWords y s ≤ bankOf y (s .bank) .words
   span-end s e = go (eqb (s .count) 0)
@@ -144,7 +156,7 @@ module _ (y : Layout) (h : List ℕ) (g : Header y h) where
     makes (order.ReadPermalock r s) p e = tt
     makes (order.Permalock r s b) p e =
         let w = perma-rows m s f b e in
-        (held (y .perma .at + s .pointer) (s .count) (omega (arith, g .work .at)) (omega (arith, perma-small, g .pairs-least)), omega (arith, p), omega (arith, perma-small))
+        (held (y .perma .at + s .pointer) (s .count) (omega (arith, w .0, g .work .at)) (omega (arith, perma-small, g .pairs-least)), omega (arith, p), omega (arith, w .0, perma-small))
 
     kill-end : (n : ℕ) (a : Half) → replyEnd (killReply n a) ≡ 0
     kill-end n half.Nothing = refl

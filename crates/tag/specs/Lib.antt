@@ -6,7 +6,4 @@ pub mod Table
 pub mod Port
 pub mod One
 pub mod Steps
-pub mod Worked
 pub mod PortSteps
-pub mod Cases
-pub mod Wrong

@@ -7,15 +7,15 @@ use native.Mathlib.Omega.{arith}
 use lib.ListN.{replicate}
 use Rattle.bits.specs.Words.{wordAt}
 use Rattle.image.specs.Worked.{worked}
 use Rattle.tag.specs.declared.State.the-variants as state
 use Rattle.tag.specs.declared.Session.{Session}
 use Rattle.tag.specs.Session.{offSession, newSession}
 use Rattle.tag.specs.Result.{Result}
 use Rattle.tag.specs.Power.{powerUpOf}
 use Rattle.tag.specs.Table.{liveOf, answered, admitOf}
 use Rattle.tag.specs.Port.{bitOf, askOf, releaseOf, registerOf, readOf}
-use Rattle.tag.specs.Worked.{powered}
-use Rattle.tag.specs.Cases.{holding, reads, registers}
+use Rattle.demands.specs.Worked.{powered}
+use Rattle.demands.specs.Ports.{holding, reads, registers}
 
 -- a session's port and its register's bit 1, as numbers
 abbrev portIn : Session → ℕ

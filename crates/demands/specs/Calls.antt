@@ -1,0 +1,125 @@
+-- The public operations as calls of one tag, and what their promises say of each (RULES 5 and 7.1). Assumes nothing.
+use Prim.Native.Nat.{ℕ}
+use mathlib.Core.Path.{_≡_}
+use mathlib.Core.List.{List, [], _∷_}
+use Rattle.bits.specs.Words.{Store}
+use Rattle.image.specs.declared.Layout.{Layout}
+use Rattle.image.specs.Layout.{layoutOf}
+use Rattle.image.specs.Content.{countIn}
+use Rattle.image.specs.Check.{checkOf, good}
+use Rattle.stores.specs.Stores.{changeStores, powerStores}
+use Rattle.tag.specs.declared.Session.{Session}
+use Rattle.tag.specs.declared.Outcome.{Outcome}
+use Rattle.tag.specs.Session.{offSession}
+use Rattle.tag.specs.Result.{Result, result}
+use Rattle.tag.specs.Commands.{isKilled}
+use Rattle.tag.specs.Power.{powerUpOf}
+use Rattle.tag.specs.Table.{input, liveOf, storesOf, frameOf, admitOf}
+use Rattle.tag.specs.Port.{askOf, releaseOf, registerOf, readOf, portWords, writeOf}
+
+-- what a caller hands over beside the session and the image: a power-up's s; an admission's number; a frame's bytes, bit count, fresh word, room and s;
+-- a read's first word, count and room; a write's first word, data and s
+pub data Call : Type 0 where
+  powerUp : ℕ → Call
+  admit : ℕ → Call
+  frame : List ℕ → ℕ → ℕ → List ℕ → ℕ → Call
+  ask : Call
+  release : Call
+  register : Call
+  read : ℕ → ℕ → List ℕ → Call
+  write : ℕ → List ℕ → ℕ → Call
+
+-- any session and any image, whether they belong together or not
+pub record Tag : Type 0 where
+  pub session : Session
+  pub image : List ℕ
+
+-- what each operation's promise has on its right side
+abbrev pub answerOf : Tag → Call → Result
+answerOf t (powerUp s) = powerUpOf (t .image) s
+answerOf t (admit n) = admitOf (t .session) n
+answerOf t (frame f bits fresh room s) = frameOf (input (t .session) (t .image) f bits fresh room s)
+answerOf t ask = askOf (t .session)
+answerOf t release = releaseOf (t .session)
+answerOf t register = registerOf (t .session)
+answerOf t (read at count room) = readOf (t .session) (t .image) at count room
+answerOf t (write at d s) = writeOf (t .session) (t .image) at d s
+
+-- an operation's outcome, image and room meet its promise
+abbrev pub Meets : Tag → Call → Outcome → List ℕ → List ℕ → Type 0
+Meets t c o image room = result o image room ≡ answerOf t c
+
+-- what a call was handed: the session (power-up asks for none), the image and the room ([] where it has none) and s (0 where it stores nothing)
+abbrev pub sessionIn : Tag → Call → Session
+sessionIn t (powerUp s) = offSession
+sessionIn t (admit n) = t .session
+sessionIn t (frame f bits fresh room s) = t .session
+sessionIn t ask = t .session
+sessionIn t release = t .session
+sessionIn t register = t .session
+sessionIn t (read at count room) = t .session
+sessionIn t (write at d s) = t .session
+
+abbrev pub imageIn : Tag → Call → List ℕ
+imageIn t (powerUp s) = t .image
+imageIn t (admit n) = []
+imageIn t (frame f bits fresh room s) = t .image
+imageIn t ask = []
+imageIn t release = []
+imageIn t register = []
+imageIn t (read at count room) = t .image
+imageIn t (write at d s) = t .image
+
+abbrev pub roomIn : Call → List ℕ
+roomIn (powerUp s) = []
+roomIn (admit n) = []
+roomIn (frame f bits fresh room s) = room
+roomIn ask = []
+roomIn release = []
+roomIn register = []
+roomIn (read at count room) = room
+roomIn (write at d s) = []
+
+abbrev pub powerIn : Call → ℕ
+powerIn (powerUp s) = s
+powerIn (admit n) = 0
+powerIn (frame f bits fresh room s) = s
+powerIn ask = 0
+powerIn release = 0
+powerIn register = 0
+powerIn (read at count room) = 0
+powerIn (write at d s) = s
+
+-- the stores that it makes where the power lasts
+abbrev pub storesIn : Tag → Call → List Store
+storesIn t (powerUp s) = powerStores (layoutOf (t .image)) (t .image)
+storesIn t (admit n) = []
+storesIn t (frame f bits fresh room s) = storesOf (input (t .session) (t .image) f bits fresh room s)
+storesIn t ask = []
+storesIn t release = []
+storesIn t register = []
+storesIn t (read at count room) = []
+storesIn t (write at d s) =
+    let y = layoutOf (t .image) in
+    changeStores (y .work .at) (portWords y (t .image) (isKilled (liveOf (t .session .power) .state)) at d)
+
+-- the image after a call: it stays where the call has none
+abbrev pub imageAfter : Tag → Call → List ℕ
+imageAfter t (powerUp s) = answerOf t (powerUp s) .image
+imageAfter t (admit n) = t .image
+imageAfter t (frame f bits fresh room s) = answerOf t (frame f bits fresh room s) .image
+imageAfter t ask = t .image
+imageAfter t release = t .image
+imageAfter t register = t .image
+imageAfter t (read at count room) = answerOf t (read at count room) .image
+imageAfter t (write at d s) = answerOf t (write at d s) .image
+
+-- any run of calls, each with whatever session: cuts are calls whose power does not last
+abbrev pub run : List ℕ → List (Session × Call) → List ℕ
+run m [] = m
+run m (c ∷ cs) = run (imageAfter (record { session = c .0; image = m }) (c .1)) cs
+
+-- a good image of the layout y with nothing pending
+pub record Idle (y : Layout) (m : List ℕ) : Type 0 where
+  pub sound : checkOf m ≡ good y
+  pub nothing : countIn y m ≡ 0

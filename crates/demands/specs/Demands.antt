@@ -1,0 +1,100 @@
+-- What the buyer asked for (RULES D1 to D3), as statements. Their proofs: `demand-1`, `demand-2`, `demand-3` and `any-run` in proofs/. Assumes nothing.
+use Prim.Native.Nat.{ℕ, _+_, _*_, _/_, _≤_, _<_}
+use mathlib.Core.Path.{_≡_}
+use mathlib.Core.Bool.{Bool, true, false, _||_}
+use mathlib.Core.List.{List, [], _∷_, _++_}
+use lib.Dec.{eqb}
+use lib.ListN.{length, take}
+use Rattle.bits.specs.Words.{wordAt, Store, after}
+use Rattle.image.specs.declared.Layout.{Layout}
+use Rattle.image.specs.Layout.{layoutOf, end, blocksIn, within}
+use Rattle.image.specs.Content.{lockWord, permalock}
+use Rattle.image.specs.Check.{checkOf, good}
+use Rattle.rights.specs.Rights.{permaBit}
+use Rattle.tag.specs.declared.State.the-variants as state
+use Rattle.tag.specs.declared.Session.{Session}
+use Rattle.tag.specs.declared.Outcome.{Outcome}
+use Rattle.tag.specs.Session.{offSession}
+use Rattle.tag.specs.Result.{Result}
+use Rattle.tag.specs.Commands.{used}
+use Rattle.tag.specs.Table.{liveOf, movedTo}
+use Rattle.tag.specs.Power.{powerUpOf}
+use Rattle.demands.specs.Calls.{Call, frame, write, Tag, answerOf, Meets, sessionIn, imageIn, roomIn, powerIn, storesIn, run, Idle}
+
+-- DEMAND 1. Every image, frame and SPI transaction that can be handed over gets one answer of the table; a refusal leaves what the table says.
+
+-- an answer with everything as it was
+abbrev pub leaving : Tag → Call → ℕ → Session → Result
+leaving t c n session =
+    record { number = n; session = session; reply = 0; stores = 0; value = 0; image = imageIn t c; room = roomIn c }
+
+-- the numbers that leave everything
+abbrev pub refuses : ℕ → Bool
+refuses n = within 1 9 n || eqb n 13
+
+-- number by number: 1 to 9 and 13 leave everything; 10 leaves the image and uses up the cover number; 11 leaves the first s stores, Off and no reply;
+-- 12 leaves the image, Arbitrate and no reply; and an answer without a reply changes no byte of the room
+pub record Tabled (t : Tag) (c : Call) (r : Result) : Type 0 where
+  pub listed : r .number ≤ 13
+  pub refused : refuses (r .number) ≡ true → r ≡ leaving t c (r .number) (sessionIn t c)
+  pub error : r .number ≡ 10
+      → (r .image ≡ imageIn t c) × (r .stores ≡ 0) × (let l = liveOf (t .session .power) in r .session ≡ movedTo l (used (l .state)))
+  pub lost : r .number ≡ 11
+      → r ≡ record { number = 11; session = offSession; reply = 0; stores = powerIn c; value = 0; image = after (imageIn t c) (take (powerIn c) (storesIn t c)); room = roomIn c }
+  pub dropped : r .number ≡ 12 → r ≡ leaving t c 12 (movedTo (liveOf (t .session .power)) state.Arbitrate)
+  pub silent : r .reply ≡ 0 → r .room ≡ roomIn c
+
+pub record Demand1 : Type 0 where
+  pub one : (t : Tag) (c : Call) (p q : Outcome) (m n a b : List ℕ) → Meets t c p m a → Meets t c q n b → (p ≡ q) × (m ≡ n) × (a ≡ b)
+  pub table : (t : Tag) (c : Call) → Tabled t c (answerOf t c)
+
+-- DEMAND 2 stands in `Commands`: command by command.
+
+-- DEMAND 3. From a good image with nothing pending, a frame or SPI write that stores n words, n at least 1: cut it after any number of stores, and cut the
+-- power-ups that follow as often as you like. The first whole power-up leaves every word outside WORK as if the command had never come (at most 2n stores
+-- made) or as if it had finished (more), each followed by one whole power-up.
+
+-- a command that may store, but for the power
+pub data Storing : Type 0 where
+  byRadio : List ℕ → ℕ → ℕ → List ℕ → Storing
+  byPort : ℕ → List ℕ → Storing
+
+abbrev pub told : Storing → ℕ → Call
+told (byRadio f bits fresh room) s = frame f bits fresh room s
+told (byPort at d) s = write at d s
+
+-- the image after power-ups with power for ks stores
+abbrev pub powerUps : List ℕ → List ℕ → List ℕ
+powerUps [] m = m
+powerUps (k ∷ ks) m = powerUps ks (powerUpOf m k .image)
+
+-- m after a whole power-up is n after one, outside WORK
+abbrev pub SameOnce : Layout → List ℕ → List ℕ → Type 0
+SameOnce y m n =
+    (j k : ℕ) → powerUpOf m j .number ≡ 0 → powerUpOf n k .number ≡ 0
+    → (i : ℕ) → i < y .work .at → wordAt (powerUpOf m j .image) i ≡ wordAt (powerUpOf n k .image) i
+
+-- the command c stores n words where the power lasts for `enough`; what a cut after s stores and power-ups told ks leave
+pub record Unbroken (y : Layout) (t : Tag) (c : Storing) (n enough s : ℕ) (ks : List ℕ) : Type 0 where
+  pub old : answerOf t (told c s) .stores ≤ 2 * n → SameOnce y (powerUps ks (answerOf t (told c s) .image)) (t .image)
+  pub new : 2 * n < answerOf t (told c s) .stores → SameOnce y (powerUps ks (answerOf t (told c s) .image)) (answerOf t (told c enough) .image)
+  pub ready : checkOf (powerUps ks (answerOf t (told c s) .image)) ≡ good y
+
+abbrev pub Demand3 : Type 0
+Demand3 =
+    (y : Layout) (t : Tag) (c : Storing) (n enough : ℕ) → Idle y (t .image) → 1 ≤ n
+    → answerOf t (told c enough) .number ≡ 0 → answerOf t (told c enough) .stores ≡ 3 * n + 2
+    → (s : ℕ) (ks : List ℕ) → Unbroken y t c n enough s ks
+
+-- So, through any run of commands, SPI transfers, admissions, cuts and power-ups from such an image, with any inputs and any sessions: from any point of
+-- the run to any later one the image stays good, header and TID stay, no permalock is taken off, and no USER word of a permalocked block changes.
+pub record Kept (y : Layout) (m n : List ℕ) : Type 0 where
+  pub sound : checkOf n ≡ good y
+  pub header : (i : ℕ) → i < 16 → wordAt n i ≡ wordAt m i
+  pub tid : (i : ℕ) → y .tid .at ≤ i → i < end (y .tid) → wordAt n i ≡ wordAt m i
+  pub locks : (k : ℕ) → k < 5 → permaBit (lockWord y m) k ≡ 1 → permaBit (lockWord y n) k ≡ 1
+  pub blocks : (b : ℕ) → b < blocksIn y → permalock y m b ≡ 1 → permalock y n b ≡ 1
+  pub words : (i : ℕ) → i < y .user .words → permalock y m (i / y .block) ≡ 1 → wordAt n (y .user .at + i) ≡ wordAt m (y .user .at + i)
+
+abbrev pub AnyRun : Type 0
+AnyRun = (y : Layout) (m : List ℕ) (before later : List (Session × Call)) → Idle y m → Kept y (run m before) (run m (before ++ later))

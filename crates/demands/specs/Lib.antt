@@ -1,0 +1,6 @@
+pub mod Worked
+pub mod Ports
+pub mod Wrong
+pub mod Calls
+pub mod Demands
+pub mod Commands
