@@ -1,2 +1,4 @@
 pub mod Sound
 pub mod Plans
+pub mod Rows
+pub mod Cuts
