@@ -2,3 +2,4 @@ pub mod Sound
 pub mod Plans
 pub mod Rows
 pub mod Cuts
+pub mod Runs
