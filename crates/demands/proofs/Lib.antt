@@ -3,3 +3,4 @@ pub mod Plans
 pub mod Rows
 pub mod Cuts
 pub mod Runs
+pub mod Tables

@@ -1,0 +1,228 @@
+-- Demand 1: each promise allows one outcome, and each answer leaves what the table says. Assumes nothing.
+use Prim.Native.Nat.{ℕ, zero, suc, _+_, _*_, _/_, _≤_, _<_}
+use mathlib.Core.Path.{_≡_, refl, sym, ap, ap₂, _∙_}
+use mathlib.Core.Logic.{_⊎_, inl, inr, ⊎-elim}
+use mathlib.Core.Bool.{Bool, true, false, cond, not, _||_}
+use mathlib.Core.List.{List, [], _∷_, _++_}
+use native.Mathlib.Omega.{arith}
+use lib.Dec.{eqb, leb, ltb, lit≤}
+use lib.ListN.{length, take}
+use borrow.Author.Tests.{eqb-true, leb-true}
+use Rattle.bits.specs.Words.{Store, after}
+use Rattle.bits.specs.Bits.{wordsBits}
+use Rattle.bits.specs.First.{first}
+use Rattle.bits.proofs.Below.{and-right, or-cases}
+use Rattle.image.specs.Layout.{layoutOf, within}
+use Rattle.image.specs.Check.{short, headerWrong, contentBroken}
+use Rattle.replies.specs.declared.Reply.{Reply}
+use Rattle.replies.specs.declared.Reply.the-variants as reply
+use Rattle.replies.specs.Replies.{replyBits, replyLength}
+use Rattle.replies.specs.Pack.{packed}
+use Rattle.replies.proofs.Laws.{packed-none}
+use Rattle.stores.specs.Stores.{changeStores, powerStores}
+use Rattle.tag.specs.declared.State.{State}
+use Rattle.tag.specs.declared.State.the-variants as state
+use Rattle.tag.specs.declared.Session.{Session}
+use Rattle.tag.specs.Session.{offSession, newSession}
+use Rattle.tag.specs.Result.{Result}
+use Rattle.tag.specs.One.{one-outcome}
+use Rattle.tag.specs.Commands.{isKilled, used}
+use Rattle.tag.specs.Power.{poweredTo, firstIn, started, powerUpOf}
+use Rattle.tag.specs.Table.{Input, input, said, live, stateOf, liveOf, isOff, isArbitrate, newState, replyOf, storesOf, movedTo, everything, dropped, cut, replied, rows, frameOf, answered, admitOf}
+use Rattle.tag.specs.Port.{isLinked, heldTo, told, askOf, releaseOf, registerOf, badCount, badData, readBits, portWords, someUnwritten, registerTo, withKilled, withUnwritten, transferred, refusals, readOf, writeOf}
+use Rattle.demands.specs.Calls.{Call, powerUp, admit, frame, ask, release, register, read, write, Tag, answerOf, sessionIn, imageIn, roomIn, powerIn, storesIn}
+use Rattle.demands.specs.Demands.{leaving, refuses, Tabled, Demand1}
+use Rattle.demands.proofs.Rows.{Each, first-each}
+
+never : false ≡ true → ⊥
+never e = let z : _≡_ {A = ℕ} (cond false 1 0) (cond true 1 0) = ap (λ (t : Bool). cond t 1 0) e in omega arith
+
+refusal-small : (n : ℕ) → refuses n ≡ true → n ≤ 13
+refusal-small n e =
+    ⊎-elim (λ a. omega (arith, leb-true n 9 (and-right (leb 1 n) (leb n 9) a))) (λ a. omega (arith, eqb-true n 13 a)) (or-cases (within 1 9 n) (eqb n 13) e)
+
+-- a reply of no bits changes no byte
+silence : (m room : List ℕ) (r : Reply) → replyLength r ≡ 0 → packed (replyBits m r) room ≡ room
+silence m room reply.Silence e = packed-none room
+silence m room (reply.Number n) e = absurd (omega arith)
+silence m room (reply.Success h) e = absurd (omega arith)
+silence m room (reply.Words i k h) e = absurd (omega arith)
+silence m room (reply.Error c h) e = absurd (omega arith)
+
+module _ (t : Tag) (c : Call) where
+  -- a refusal, and answer 0
+  refusal : (n : ℕ) → refuses n ≡ true → Tabled t c (leaving t c n (sessionIn t c))
+  refusal n e =
+      record {
+        listed = refusal-small n e;
+        refused = λ q. refl;
+        error = λ q. absurd (never (sym (ap refuses q) ∙ e));
+        lost = λ q. absurd (never (sym (ap refuses q) ∙ e));
+        dropped = λ q. absurd (never (sym (ap refuses q) ∙ e));
+        silent = λ q. refl;
+      }
+
+  zero-answer : (r : Result) → r .number ≡ 0 → (r .reply ≡ 0 → r .room ≡ roomIn c) → Tabled t c r
+  zero-answer r z s =
+      record {
+        listed = omega (arith, z);
+        refused = λ q. absurd (never (sym (ap refuses z) ∙ q));
+        error = λ q. absurd (omega (arith, z, q));
+        lost = λ q. absurd (omega (arith, z, q));
+        dropped = λ q. absurd (omega (arith, z, q));
+        silent = s;
+      }
+
+  lost-answer : Tabled t c (record { number = 11; session = offSession; reply = 0; stores = powerIn c; value = 0; image = after (imageIn t c) (take (powerIn c) (storesIn t c)); room = roomIn c })
+  lost-answer =
+      record {
+        listed = lit≤ tt;
+        refused = λ q. absurd (never q);
+        error = λ q. absurd (omega arith);
+        lost = λ q. refl;
+        dropped = λ q. absurd (omega arith);
+        silent = λ q. refl;
+      }
+
+-- a frame's rows
+module _ (v : Session) (m f : List ℕ) (bits fresh : ℕ) (room : List ℕ) (s : ℕ) where
+  tag : Tag
+  tag = record { session = v; image = m }
+
+  call : Call
+  call = frame f bits fresh room s
+
+  handed : Input
+  handed = input v m f bits fresh room s
+
+  error-row : Tabled tag call (replied handed 10 (used (stateOf handed)) [])
+  unfolding tag call handed
+  error-row =
+      record {
+        listed = lit≤ tt;
+        refused = λ q. absurd (never q);
+        error = λ q. (refl, refl, refl);
+        lost = λ q. absurd (omega arith);
+        dropped = λ q. absurd (omega arith);
+        silent = silence m room (replyOf handed);
+      }
+
+  dropped-row : Tabled tag call (dropped handed)
+  unfolding tag call handed
+  dropped-row =
+      record {
+        listed = lit≤ tt;
+        refused = λ q. absurd (never q);
+        error = λ q. absurd (omega arith);
+        lost = λ q. absurd (omega arith);
+        dropped = λ q. refl;
+        silent = λ q. refl;
+      }
+
+  frame-rows : Each (Tabled tag call) (rows handed)
+  unfolding tag call handed
+  frame-rows =
+      (refusal tag call 1 refl, (refusal tag call 2 refl, (refusal tag call 3 refl, (refusal tag call 5 refl, (refusal tag call 6 refl, (refusal tag call 7 refl, (refusal tag call 8 refl, (refusal tag call 9 refl,
+      (dropped-row, (error-row, (refusal tag call 4 refl, (lost-answer tag call, tt))))))))))))
+
+  frame-tabled : Tabled tag call (frameOf handed)
+  unfolding frameOf tag call handed
+  frame-tabled =
+      first-each (Tabled tag call) (rows handed) (replied handed 0 (newState handed (said handed)) (storesOf handed)) frame-rows
+      (zero-answer tag call (replied handed 0 (newState handed (said handed)) (storesOf handed)) refl (silence m room (replyOf handed)))
+
+-- the rows before a transfer's own
+module _ (v : Session) (m : List ℕ) where
+  tag-of : Tag
+  tag-of = record { session = v; image = m }
+
+  read-tabled : (at count : ℕ) (room : List ℕ) → Tabled tag-of (read at count room) (readOf v m at count room)
+  unfolding readOf wordsBits tag-of
+  read-tabled at count room =
+      let c = read at count room in
+      first-each (Tabled tag-of c) (refusals v m room (badCount (layoutOf m) at count) ++ ((transferred 4 v 0 0 m room, ltb (length room) (2 * count)) ∷ [])) _
+      (refusal tag-of c 1 refl, (refusal tag-of c 2 refl, (refusal tag-of c 3 refl, (refusal tag-of c 5 refl, (refusal tag-of c 6 refl, (refusal tag-of c 13 refl, (refusal tag-of c 4 refl, tt)))))))
+      (zero-answer tag-of c _ refl (λ q. no-words (isKilled (liveOf (v .power) .state)) count (omega (arith, q))))
+    where
+      no-words : (k : Bool) (n : ℕ) → n ≡ 0 → packed (readBits (layoutOf m) m k at n) room ≡ room
+      no-words k n e = ap (λ (x : ℕ). packed (readBits (layoutOf m) m k at x) room) e ∙ none k
+        where
+          none : (k : Bool) → packed (readBits (layoutOf m) m k at 0) room ≡ room
+          none true = packed-none room
+          none false = packed-none room
+
+  write-tabled : (at : ℕ) (d : List ℕ) (s : ℕ) → Tabled tag-of (write at d s) (writeOf v m at d s)
+  unfolding writeOf tag-of
+  write-tabled at d s =
+      let c = write at d s in
+      let l = liveOf (v .power) in
+      let y = layoutOf m in
+      let killed = isKilled (l .state) in
+      let stores = changeStores (y .work .at) (portWords y m killed at d) in
+      first-each (Tabled tag-of c)
+      (refusals v m [] (badData y at d) ++ ((transferred 11 offSession 0 s (after m (take s stores)) [], ltb s (length stores)) ∷ []))
+      (transferred 0 (registerTo l (cond killed (withKilled (l .register)) (withUnwritten (someUnwritten y m at (length d / 2)) (l .register)))) 0 (length stores) (after m stores) [])
+      (refusal tag-of c 1 refl, (refusal tag-of c 2 refl, (refusal tag-of c 3 refl, (refusal tag-of c 5 refl, (refusal tag-of c 6 refl, (refusal tag-of c 13 refl, (lost-answer tag-of c, tt)))))))
+      (zero-answer tag-of c _ refl (λ q. refl))
+
+-- calls without an image, and power-up
+module _ (t : Tag) where
+  admit-tabled : (n : ℕ) → Tabled t (admit n) (admitOf (t .session) n)
+  unfolding admitOf
+  admit-tabled n =
+      let s = t .session in
+      let l = liveOf (s .power) in
+      let c = admit n in
+      first-each (Tabled t c) ((answered 5 s, isOff (s .power)) ∷ (answered 6 s, l .held) ∷ (answered 9 s, not (isArbitrate (l .state))) ∷ [])
+      (answered 0 (movedTo l (state.Acknowledged n)))
+      (refusal t c 5 refl, (refusal t c 6 refl, (refusal t c 9 refl, tt))) (zero-answer t c _ refl (λ q. refl))
+
+  ask-tabled : Tabled t ask (askOf (t .session))
+  unfolding askOf
+  ask-tabled =
+      let s = t .session in
+      let l = liveOf (s .power) in
+      first-each (Tabled t ask) ((answered 5 s, isOff (s .power)) ∷ (answered 6 s, l .held || isLinked (l .state)) ∷ []) (answered 0 (heldTo l true))
+      (refusal t ask 5 refl, (refusal t ask 6 refl, tt)) (zero-answer t ask _ refl (λ q. refl))
+
+  release-tabled : Tabled t release (releaseOf (t .session))
+  unfolding releaseOf
+  release-tabled =
+      let s = t .session in
+      let l = liveOf (s .power) in
+      first-each (Tabled t release) ((answered 5 s, isOff (s .power)) ∷ (answered 6 s, not (l .held)) ∷ []) (answered 0 (heldTo l false))
+      (refusal t release 5 refl, (refusal t release 6 refl, tt)) (zero-answer t release _ refl (λ q. refl))
+
+  register-tabled : Tabled t register (registerOf (t .session))
+  unfolding registerOf
+  register-tabled =
+      let s = t .session in
+      let l = liveOf (s .power) in
+      first-each (Tabled t register) ((answered 5 s, isOff (s .power)) ∷ (answered 6 s, not (l .held)) ∷ []) (told l)
+      (refusal t register 5 refl, (refusal t register 6 refl, tt)) (zero-answer t register _ refl (λ q. refl))
+
+  power-tabled : (s : ℕ) → Tabled t (powerUp s) (powerUpOf (t .image) s)
+  unfolding powerUpOf started
+  power-tabled s =
+      let m = t .image in
+      let stores = powerStores (layoutOf m) m in
+      let c = powerUp s in
+      first-each (Tabled t c)
+      ((poweredTo 1 offSession 0 m, short m) ∷ (poweredTo 2 offSession 0 m, headerWrong m) ∷ (poweredTo 3 offSession 0 m, contentBroken m)
+      ∷ (poweredTo 11 offSession s (after m (take s stores)), ltb s (length stores)) ∷ [])
+      (poweredTo 0 (newSession (firstIn (layoutOf m) (after m stores))) (length stores) (after m stores))
+      (refusal t c 1 refl, (refusal t c 2 refl, (refusal t c 3 refl, (lost-answer t c, tt)))) (zero-answer t c _ refl (λ q. refl))
+
+tabled : (t : Tag) (c : Call) → Tabled t c (answerOf t c)
+unfolding tag call handed tag-of
+tabled t (powerUp s) = power-tabled t s
+tabled t (admit n) = admit-tabled t n
+tabled t (frame f bits fresh room s) = frame-tabled (t .session) (t .image) f bits fresh room s
+tabled t ask = ask-tabled t
+tabled t release = release-tabled t
+tabled t register = register-tabled t
+tabled t (read at count room) = read-tabled (t .session) (t .image) at count room
+tabled t (write at d s) = write-tabled (t .session) (t .image) at d s
+
+pub demand-1 : Demand1
+demand-1 = record { one = λ t c p q m n a b e f. one-outcome p q m n a b (answerOf t c) e f; table = tabled }
