@@ -4,3 +4,4 @@ pub mod Rows
 pub mod Cuts
 pub mod Runs
 pub mod Tables
+pub mod Commands

@@ -1,0 +1,293 @@
+-- Demand 2: where no refusal applies, the table gives its last row; command by command. Assumes nothing.
+use Prim.Native.Nat.{ℕ, zero, suc, _+_, _-_, _*_, _/_, _%_, _≤_, _<_}
+use mathlib.Core.Path.{_≡_, refl, sym, ap, ap₂, _∙_, subst}
+use mathlib.Core.Bool.{Bool, true, false, cond, not, _&&_, _||_}
+use mathlib.Core.List.{List, [], _∷_, _++_}
+use native.Mathlib.Omega.{arith}
+use lib.Bits.{bitXor, bitOr}
+use lib.Dec.{eqb, ltb}
+use lib.ListN.{length, take}
+use borrow.Author.Tests.{eq-eqb, ne-eqb, le-ltb}
+use Rattle.bits.specs.Words.{wordAt, Store, store, after}
+use Rattle.bits.specs.Bits.{fieldAt, wordsBits}
+use Rattle.image.specs.declared.Layout.{Layout}
+use Rattle.image.specs.Layout.{layoutOf, pairsIn}
+use Rattle.image.specs.Content.{countIn}
+use Rattle.image.specs.Check.{checkOf, good, short, headerWrong, contentBroken}
+use Rattle.image.specs.Rules.{Good}
+use Rattle.image.proofs.Answers.{check-good, check-0}
+use Rattle.frames.specs.declared.Order.{Order}
+use Rattle.frames.specs.declared.Order.the-variants as order
+use Rattle.frames.specs.declared.Command.{Command}
+use Rattle.frames.specs.declared.Heard.{Heard}
+use Rattle.frames.specs.declared.Heard.the-variants as heard
+use Rattle.frames.specs.Frames.{span, heardOf, checksumRight}
+use Rattle.replies.specs.declared.Reply.{Reply}
+use Rattle.replies.specs.declared.Reply.the-variants as reply
+use Rattle.replies.specs.Replies.{replyBits, replyLength, replyBytes}
+use Rattle.replies.specs.Pack.{packed}
+use Rattle.rights.specs.declared.Code.{Code}
+use Rattle.rights.specs.declared.Code.the-variants as code
+use Rattle.stores.specs.Stores.{changeStores}
+use Rattle.tag.specs.declared.Asks.{Asks}
+use Rattle.tag.specs.declared.Cover.{Cover}
+use Rattle.tag.specs.declared.Cover.the-variants as cover
+use Rattle.tag.specs.declared.Half.{Half}
+use Rattle.tag.specs.declared.Half.the-variants as half
+use Rattle.tag.specs.declared.Link.{Link}
+use Rattle.tag.specs.declared.Part.the-variants as part
+use Rattle.tag.specs.declared.Register.{Register}
+use Rattle.tag.specs.declared.State.{State}
+use Rattle.tag.specs.declared.State.the-variants as state
+use Rattle.tag.specs.declared.Session.{Session}
+use Rattle.tag.specs.Session.{offSession}
+use Rattle.tag.specs.Result.{Result}
+use Rattle.tag.specs.Commands.{asksOf, linkOf, isSecured, isCovered, isKilled, wrong, wrongCommand, killWord, accessWord, breaks, codeOf, used, stateAfter, replyAfter, wordsAfter}
+use Rattle.tag.specs.Table.{Input, input, said, malformed, checksumWrong, broken, errorCode, newState, doneReply, doneWords, isError, replyOr, replyOf, storesOf, fits, replied, rows, frameOf, admitOf, answered}
+use Rattle.tag.specs.Port.{isLinked, badCount, badData, refusals, transferred, registerTo, withKilled, withUnwritten, someUnwritten, writtenWords, readBits, portWords, askOf, releaseOf, registerOf, readOf, writeOf}
+use Rattle.demands.specs.Calls.{Idle}
+use Rattle.demands.specs.Commands.{Air, on, linked, link, done, answer, Enough, Says, Does, zeroAccess, zeroKill, Radio, Engine, Demand2}
+use Rattle.demands.proofs.Rows.{Rows, None, none-first}
+
+-- the frame that was heard as x comes to the last row
+module _ (a : Air) (st : State) (r : Register) (idle : Idle (layoutOf (a .image)) (a .image)) where
+  y : Layout
+  y = layoutOf (a .image)
+
+  handed : Input
+  handed = input (on st false r) (a .image) (a .frame) (a .bits) (a .fresh) (a .room) (a .power)
+
+  -- answer 0 as the table has it
+  given : Reply → State → List Store → Result
+  given rp st′ ws =
+      let ss = changeStores (layoutOf (a .image) .work .at) ws in
+      record {
+        number = 0;
+        session = on st′ false r;
+        reply = replyLength rp;
+        stores = length ss;
+        value = 0;
+        image = after (a .image) ss;
+        room = packed (replyBits (a .image) rp) (a .room);
+      }
+
+  fitting : (rp : Reply) → replyBytes rp ≤ length (a .room) → fits rp (a .room) ≡ true
+  fitting rp l = ap not (le-ltb (length (a .room)) (replyBytes rp) l)
+
+  module _ (x : Heard) (h : heardOf (a .frame) (a .bits) ≡ x) (m : malformed x ≡ false) (k : checksumWrong (a .frame) (a .bits) x ≡ false)
+      (w : wrong st x ≡ false) (b : broken handed x ≡ false) (e : errorCode handed x ≡ code.Nothing)
+      (room : replyBytes (doneReply handed x) ≤ length (a .room)) (power : length (changeStores (layoutOf (a .image) .work .at) (doneWords handed x)) ≤ a .power) where
+    reply-is : replyOf handed ≡ doneReply handed x
+    unfolding handed
+    reply-is =
+        ap (λ (z : Heard). replyOr (errorCode handed z) (linkOf st .handle) (doneReply handed z)) h
+        ∙ ap (λ (c : Code). replyOr c (linkOf st .handle) (doneReply handed x)) e
+
+    code-is : errorCode handed (heardOf (a .frame) (a .bits)) ≡ code.Nothing
+    code-is = ap (errorCode handed) h ∙ e
+
+    words-are : doneWords handed (heardOf (a .frame) (a .bits)) ≡ doneWords handed x
+    words-are = ap (doneWords handed) h
+
+    fits-is : fits (replyOf handed) (a .room) ≡ true
+    fits-is = ap (λ (q : Reply). fits q (a .room)) reply-is ∙ fitting (doneReply handed x) room
+
+    none : None (rows handed)
+    unfolding handed
+    none =
+        let c = check-0 (a .image) (layoutOf (a .image)) (sym (idle .sound)) in
+        (c .0, (c .1, (c .2,
+        (ap not (eq-eqb _ _ (idle .nothing)),
+        (refl,
+        (ap malformed h ∙ m,
+        (ap (checksumWrong (a .frame) (a .bits)) h ∙ k,
+        (ap (wrong st) h ∙ w,
+        (ap (broken handed) h ∙ b,
+        (ap (λ (q : Code). isError q && fits (replyOf handed) (a .room)) code-is,
+        (ap not fits-is,
+        (le-ltb (a .power) _ (subst (λ (ws : List Store). length (changeStores (layoutOf (a .image) .work .at) ws) ≤ a .power) (sym words-are) power), tt))))))))))))
+
+    last-row : answer a st r ≡ given (doneReply handed x) (newState handed x) (doneWords handed x)
+    unfolding frameOf handed given
+    last-row =
+        none-first (rows handed) (replied handed 0 (newState handed (said handed)) (storesOf handed)) none
+        ∙ ap (λ (q : Reply). given q (newState handed (said handed)) (doneWords handed (said handed))) reply-is
+        ∙ ap₂ (given (doneReply handed x)) (ap (newState handed) h) words-are
+
+-- an order that is heard, for the tag, whose halves are not broken and to which no code applies
+module _ (a : Air) (r : Register) (idle : Idle (layoutOf (a .image)) (a .image)) where
+  z : Layout
+  z = layoutOf (a .image)
+
+  order-done : (st : State) (n : ℕ) (o : Order) → wrongCommand st (record { number = n; order = o }) ≡ false
+      → breaks (layoutOf (a .image)) (a .image) (linkOf st) (linkOf st .half) (asksOf o .part) ≡ false
+      → codeOf (layoutOf (a .image)) (a .image) (isSecured st) (linkOf st) (a .frame) o ≡ code.Nothing
+      → Does (layoutOf (a .image)) a r n o st (stateAfter (layoutOf (a .image)) (a .image) (a .fresh) st o)
+      (replyAfter (layoutOf (a .image)) (a .fresh) (linkOf st) o) (wordsAfter (layoutOf (a .image)) (a .image) (linkOf st) (a .frame) o)
+  unfolding handed given
+  order-done st n o w b e says enough =
+      last-row a st r idle (heard.Said (record { number = n; order = o })) (says .heard) refl (ap not (says .right)) w b e (enough .0) (enough .1)
+
+  -- in Open and Secured alike
+  linked-done : (q : Bool) (k : Link) (o : Order) → asksOf o .secured ≡ false → asksOf o .cover && not (isCovered (k .cover)) ≡ false → asksOf o .bad ≡ false
+      → breaks (layoutOf (a .image)) (a .image) k (k .half) (asksOf o .part) ≡ false → codeOf (layoutOf (a .image)) (a .image) q k (a .frame) o ≡ code.Nothing
+      → Does (layoutOf (a .image)) a r (k .handle) o (linked q k) (stateAfter (layoutOf (a .image)) (a .image) (a .fresh) (linked q k) o)
+      (replyAfter (layoutOf (a .image)) (a .fresh) k o) (wordsAfter (layoutOf (a .image)) (a .image) k (a .frame) o)
+  linked-done true k o s c d b e = order-done (state.Secured k) (k .handle) o (rw (eq-eqb (k .handle) (k .handle) refl, c, d)) b e
+  linked-done false k o s c d b e = order-done (state.Open k) (k .handle) o (rw (s, eq-eqb (k .handle) (k .handle) refl, c, d)) b e
+
+  secured-done : (k : Link) (o : Order) → asksOf o .cover && not (isCovered (k .cover)) ≡ false → asksOf o .bad ≡ false
+      → breaks (layoutOf (a .image)) (a .image) k (k .half) (asksOf o .part) ≡ false → codeOf (layoutOf (a .image)) (a .image) true k (a .frame) o ≡ code.Nothing
+      → Does (layoutOf (a .image)) a r (k .handle) o (state.Secured k) (stateAfter (layoutOf (a .image)) (a .image) (a .fresh) (state.Secured k) o)
+      (replyAfter (layoutOf (a .image)) (a .fresh) k o) (wordsAfter (layoutOf (a .image)) (a .image) k (a .frame) o)
+  secured-done k o c d b e = order-done (state.Secured k) (k .handle) o (rw (eq-eqb (k .handle) (k .handle) refl, c, d)) b e
+
+  -- how a command leaves the state
+  module _ (h : ℕ) (c : Cover) (p : Half) where
+    after-used : (q : Bool) → used (linked q (link h c p)) ≡ linked q (link h cover.Nothing p)
+    after-used true = refl
+    after-used false = refl
+
+    after-number : (q : Bool) → stateAfter (layoutOf (a .image)) (a .image) (a .fresh) (linked q (link h c p)) order.ReqRn ≡ linked q (link h (cover.Number (a .fresh)) p)
+    after-number true = refl
+    after-number false = refl
+
+    unbroken : breaks (layoutOf (a .image)) (a .image) (link h c p) p part.Number ≡ false
+    unbroken = go p
+      where
+        go : (x : Half) → breaks (layoutOf (a .image)) (a .image) (link h c p) x part.Number ≡ false
+        go half.Nothing = refl
+        go (half.Access up) = refl
+        go (half.Kill up) = refl
+
+  after-first-kill : (q : Bool) (h c w : ℕ)
+      → stateAfter (layoutOf (a .image)) (a .image) (a .fresh) (linked q (link h (cover.Number c) half.Nothing)) (order.Kill w) ≡ linked q (link h cover.Nothing (half.Kill (bitXor w c)))
+  after-first-kill true h c w = refl
+  after-first-kill false h c w = refl
+
+  after-second-kill : (q : Bool) (h c w up : ℕ) → stateAfter (layoutOf (a .image)) (a .image) (a .fresh) (linked q (link h (cover.Number c) (half.Kill up))) (order.Kill w) ≡ state.Killed
+  after-second-kill true h c w up = refl
+  after-second-kill false h c w up = refl
+
+  after-first-access : (q : Bool) (h c w : ℕ)
+      → stateAfter (layoutOf (a .image)) (a .image) (a .fresh) (linked q (link h (cover.Number c) half.Nothing)) (order.Access w) ≡ linked q (link h cover.Nothing (half.Access (bitXor w c)))
+  after-first-access true h c w = refl
+  after-first-access false h c w = refl
+
+  after-second-access : (q : Bool) (h c w up : ℕ)
+      → stateAfter (layoutOf (a .image)) (a .image) (a .fresh) (linked q (link h (cover.Number c) (half.Access up))) (order.Access w) ≡ state.Secured (link h cover.Nothing half.Nothing)
+  after-second-access true h c w up = refl
+  after-second-access false h c w up = refl
+
+  -- a command's promise with its state written out
+  linked-to : (q : Bool) (k : Link) (o : Order) (v : State) → stateAfter (layoutOf (a .image)) (a .image) (a .fresh) (linked q k) o ≡ v
+      → asksOf o .secured ≡ false → asksOf o .cover && not (isCovered (k .cover)) ≡ false → asksOf o .bad ≡ false
+      → breaks (layoutOf (a .image)) (a .image) k (k .half) (asksOf o .part) ≡ false → codeOf (layoutOf (a .image)) (a .image) q k (a .frame) o ≡ code.Nothing
+      → Does (layoutOf (a .image)) a r (k .handle) o (linked q k) v (replyAfter (layoutOf (a .image)) (a .fresh) k o) (wordsAfter (layoutOf (a .image)) (a .image) k (a .frame) o)
+  linked-to q k o v u s c d b e says enough =
+      linked-done q k o s c d b e says enough
+      ∙ ap (λ (w : State). done (layoutOf (a .image)) a r w (replyAfter (layoutOf (a .image)) (a .fresh) k o) (wordsAfter (layoutOf (a .image)) (a .image) k (a .frame) o)) u
+
+  nak-done : (st : State) → isKilled st ≡ false → heardOf (a .frame) (a .bits) ≡ heard.Nak → answer a st r ≡ done (layoutOf (a .image)) a r state.Arbitrate reply.Silence []
+  unfolding handed given
+  nak-done st k e = last-row a st r idle heard.Nak e refl refl k refl refl (omega arith) (omega arith)
+
+  some : (n : ℕ) → 1 ≤ n → eqb n 0 ≡ false
+  some n l = ne-eqb n 0 (λ e. omega arith)
+
+  radio : Radio (layoutOf (a .image)) a r
+  radio =
+      record {
+        req-rn = λ n. order-done (state.Acknowledged n) n order.ReqRn (rw (eq-eqb n n refl)) refl refl;
+        req-rn-cover = λ q h c p. linked-to q (link h c p) order.ReqRn _ (after-number h c p q) refl refl refl (unbroken h c p) refl;
+        read = λ q h c b p n e. linked-to q (link h c half.Nothing) (order.Read (span b p n)) _ (after-used h c half.Nothing q) refl refl refl refl e;
+        write = λ q h c b p w e. linked-to q (link h (cover.Number c) half.Nothing) (order.Write (span b p 1) w) _ (after-used h (cover.Number c) half.Nothing q) refl refl refl refl e;
+        kill-first = λ q h c w e.
+            linked-to q (link h (cover.Number c) half.Nothing) (order.Kill w) _ (after-first-kill q h c w) refl refl refl refl (ap (λ (t : Bool). cond t (code.Error 0x00) code.Nothing) e);
+        kill-second = λ q h c w up i j.
+            linked-to q (link h (cover.Number c) (half.Kill up)) (order.Kill w) _ (after-second-kill q h c w up) refl refl refl
+            (ap not (ap₂ _&&_ (eq-eqb up (killWord (layoutOf (a .image)) (a .image) 0) i) (eq-eqb (bitXor w c) (killWord (layoutOf (a .image)) (a .image) 1) j))) refl;
+        lock = λ h c mask action e. secured-done (link h c half.Nothing) (order.Lock mask action) refl refl refl e;
+        access-first = λ q h c w. linked-to q (link h (cover.Number c) half.Nothing) (order.Access w) _ (after-first-access q h c w) refl refl refl refl refl;
+        access-second = λ q h c w up i j.
+            linked-to q (link h (cover.Number c) (half.Access up)) (order.Access w) _ (after-second-access q h c w up) refl refl refl
+            (ap not (ap₂ _&&_ (eq-eqb up (accessWord (layoutOf (a .image)) (a .image) 0) i) (eq-eqb (bitXor w c) (accessWord (layoutOf (a .image)) (a .image) 1) j))) refl;
+        block-write = λ q h c b p n at l e. linked-to q (link h c half.Nothing) (order.BlockWrite (span b p n) at) _ (after-used h c half.Nothing q) refl refl (some n l) refl e;
+        block-erase = λ q h c b p n l e. linked-to q (link h c half.Nothing) (order.BlockErase (span b p n)) _ (after-used h c half.Nothing q) refl refl (some n l) refl e;
+        permalock-read = λ h c b p n l e. secured-done (link h c half.Nothing) (order.ReadPermalock 0 (span b p n)) refl (some n l) refl e;
+        permalock = λ h c b p n at l e. secured-done (link h c half.Nothing) (order.Permalock 0 (span b p n) at) refl (some n l) refl e;
+        nak = nak-done;
+      }
+
+-- the port
+module _ (m : List ℕ) (st : State) (r : Register) (idle : Idle (layoutOf m) m) where
+  holder : Session
+  holder = on st true r
+
+  past : (room : List ℕ) (bad : Bool) (rest : Rows) → bad ≡ false → None rest → None (refusals holder m room bad ++ rest)
+  unfolding holder
+  past room bad rest e h =
+      let c = check-0 m (layoutOf m) (sym (idle .sound)) in
+      (c .0, (c .1, (c .2, (ap not (eq-eqb _ _ (idle .nothing)), (refl, (e, h))))))
+
+  count-good : (at n : ℕ) → 1 ≤ n → n ≤ 255 → at + n ≤ layoutOf m .user .words → badCount (layoutOf m) at n ≡ false
+  count-good at n a b c = rw (ne-eqb n 0 (λ e. omega arith), le-ltb 255 n b, le-ltb (layoutOf m .user .words) (at + n) c)
+
+  engine-read : (at n : ℕ) (room : List ℕ) → isKilled st ≡ false → 1 ≤ n → n ≤ 255 → at + n ≤ layoutOf m .user .words → 2 * n ≤ length room
+      → readOf (on st true r) m at n room ≡ transferred 0 (on st true r) (16 * n) 0 m (packed (wordsBits m (layoutOf m .user .at + at) n) room)
+  unfolding readOf holder
+  engine-read at n room k a b c d =
+      let row : Rows = (transferred 4 (on st true r) 0 0 m room, ltb (length room) (2 * n)) ∷ [] in
+      none-first (refusals holder m room (badCount (layoutOf m) at n) ++ row) _
+      (past room (badCount (layoutOf m) at n) row (count-good at n a b c) (le-ltb (length room) (2 * n) d, tt))
+      ∙ ap (λ (t : Bool). transferred 0 (on st true (cond t (withKilled r) r)) (16 * n) 0 m (packed (readBits (layoutOf m) m t at n) room)) k
+
+  -- the stores of the n words of d
+  stores-of : ℕ → List ℕ → ℕ → List Store
+  stores-of at d n = changeStores (layoutOf m .work .at) (writtenWords (layoutOf m) m at d n)
+
+  written : ℕ → List ℕ → ℕ → Result
+  written at d n =
+      transferred 0 (on st true (withUnwritten (someUnwritten (layoutOf m) m at n) r)) 0 (length (stores-of at d n)) (after m (stores-of at d n)) []
+
+  engine-write : (at : ℕ) (d : List ℕ) (n s : ℕ) → isKilled st ≡ false → length d ≡ 2 * n → 1 ≤ n → n ≤ 255 → at + n ≤ layoutOf m .user .words → n ≤ pairsIn (layoutOf m)
+      → length (stores-of at d n) ≤ s → writeOf (on st true r) m at d s ≡ written at d n
+  unfolding writeOf holder stores-of written
+  engine-write at d n s k size a b c few l =
+      let y = layoutOf m in
+      let half : length d / 2 ≡ n = omega (arith, size) in
+      let even : length d % 2 ≡ 0 = omega (arith, size) in
+      let words : portWords y m (isKilled st) at d ≡ writtenWords y m at d n = ap (λ (t : Bool). portWords y m t at d) k ∙ ap (writtenWords y m at d) half in
+      let stores = changeStores (y .work .at) (portWords y m (isKilled st) at d) in
+      let row : Rows = (transferred 11 offSession 0 s (after m (take s stores)) [], ltb s (length stores)) ∷ [] in
+      let bad : badData y at d ≡ false = rw (eq-eqb (length d % 2) 0 even, half, count-good at n a b c, le-ltb (pairsIn y) n few) in
+      none-first (refusals holder m [] (badData y at d) ++ row) _
+      (past [] (badData y at d) row bad (le-ltb s (length stores) (subst (λ (ws : List Store). length (changeStores (y .work .at) ws) ≤ s) (sym words) l), tt))
+      ∙ ap₂ (λ (t : Bool) (ws : List Store). transferred 0 (on st true (cond t (withKilled r) (withUnwritten (someUnwritten y m at (length d / 2)) r))) 0 (length (changeStores (y .work .at) ws)) (after m (changeStores (y .work .at) ws)) []) k words
+      ∙ ap (λ (x : ℕ). transferred 0 (on st true (withUnwritten (someUnwritten y m at x) r)) 0 (length (stores-of at d n)) (after m (stores-of at d n)) []) half
+
+  engine : Engine (layoutOf m) m st r
+  unfolding admitOf askOf releaseOf registerOf stores-of written
+  engine =
+      record {
+        admit = λ n. refl;
+        ask = λ e. rw e;
+        release = refl;
+        register = refl;
+        read = engine-read;
+        write = engine-write;
+      }
+
+pub demand-2 : Demand2
+demand-2 y r = (radio-at, engine-at)
+  where
+    layout : (m : List ℕ) → Idle y m → y ≡ layoutOf m
+    layout m i = check-good m y (i .sound) .layout
+
+    radio-at : (a : Air) → Idle y (a .image) → Radio y a r
+    radio-at a i =
+        let e = layout (a .image) i in
+        subst (λ (z : Layout). Radio z a r) (sym e) (radio a r (subst (λ (z : Layout). Idle z (a .image)) e i))
+
+    engine-at : (m : List ℕ) (st : State) → Idle y m → Engine y m st r
+    engine-at m st i = let e = layout m i in subst (λ (z : Layout). Engine z m st r) (sym e) (engine m st r (subst (λ (z : Layout). Idle z m) e i))
