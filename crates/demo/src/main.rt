@@ -3,7 +3,6 @@ mod playing;
 mod showing;
 
 use playing::Seen;
-use tag::Answer;
 
 // How a cut went: what the engine saw, or an answer that the story doesn't have.
 enum Played {
@@ -11,27 +10,9 @@ enum Played {
     Failed,
 }
 
-fn is_cut(answer: Answer) -> bool {
-    match answer {
-        Answer::PowerLost => true,
-        _ => false,
-    }
-}
-
-fn is_done(answer: Answer) -> bool {
-    match answer {
-        Answer::Done => true,
-        _ => false,
-    }
-}
-
-// Whether a write that needs 23 stores is answered as it must be with power for k.
-fn as_told(answer: Answer, k: usize) -> bool {
-    if k < 23 {
-        is_cut(answer)
-    } else {
-        is_done(answer)
-    }
+// The number that a write of 23 stores is answered with power for k of them.
+fn expected(k: usize) -> u8 {
+    if k < 23 { 11 } else { 0 }
 }
 
 // The reader powers up, and the engine's words end the line.
@@ -39,8 +20,8 @@ fn after_cut(k: usize, image: &mut [u8; 156]) -> Played {
     let mut room = [0u8; 14];
     let read = playing::read(image, &mut room);
     let answer = read.answer;
-    if !is_done(answer) {
-        showing::failure(k, b"the engine's read");
+    if tag::number(answer) != 0 {
+        showing::failure(k, b"the engine's read", tag::number(answer));
         return Played::Failed;
     }
     let words = playing::entry(&room);
@@ -55,8 +36,8 @@ fn play(k: usize) -> Played {
     playing::lay(&mut image);
     let written = playing::write(&mut image, k);
     let answer = written.answer;
-    if !as_told(answer, k) {
-        showing::failure(k, b"the gate's BlockWrite");
+    if tag::number(answer) != expected(k) {
+        showing::failure(k, b"the gate's BlockWrite", tag::number(answer));
         return Played::Failed;
     }
     showing::cut(k, written.stores);

@@ -109,13 +109,15 @@ pub fn engine(words: &[u16; 7], seen: Seen) {
     }
 }
 
-// A step that was not answered as it must be.
-pub fn failure(k: usize, step: &[u8]) {
+// A step that was answered with a number that the story doesn't have.
+pub fn failure(k: usize, step: &[u8], answer: u8) {
     text(b"\nFAILED at k = ");
     number(k as u64);
     text(b": ");
     text(step);
-    text(b" was not answered as it must be\n");
+    text(b" was answered ");
+    number(answer as u64);
+    text(b"\n");
 }
 
 pub fn begin() -> Sum {

@@ -5,7 +5,7 @@ ghost use lib.Dec.{eqb};
 ghost use lib.ListN.{length};
 ghost use Rattle.bits.specs.Below.{every};
 ghost use Rattle.image.specs.Layout.{layoutOf, sectionAt, blocksIn, pairsIn, headerGood, end as endOf, within as withinOf, stands as standsOf};
-ghost use Rattle.image.specs.Check.{meaning, checkOf};
+ghost use Rattle.image.specs.Check.{meaning, rowOf, checkOf};
 ghost use Rattle.image.specs.Steps.{banksGood, spareIn, mayStand, between as betweenOf, mayTake, wordFits, lastIn, wordsFit, pairFits, contentFits};
 use bits::both;
 use bits::either;
@@ -258,4 +258,16 @@ pub fn check(image: &[u8]) -> Fit
         return Fit::Content;
     }
     Fit::Good(y)
+}
+
+// An answer's number in the table (RULES 5).
+pub fn number(fit: Fit) -> u8
+    ensures { λ r. ⌜ r ≡ rowOf (meaning fit) ⌝ }
+{
+    match fit {
+        Fit::Short => 1,
+        Fit::Header => 2,
+        Fit::Content => 3,
+        Fit::Good(_) => 0,
+    }
 }
