@@ -7,8 +7,6 @@ use crate::parts::Word;
 use crate::verbs;
 use crate::verbs::Verb;
 use crate::writing;
-use image::Fit;
-use tag::Answer;
 use tag::Outcome;
 use tag::Power;
 use tag::Session;
@@ -107,18 +105,8 @@ fn check_line(d: Desk, line: &[u8], image: &[u8], out: &mut [u8; 65536]) -> Desk
     if parts::count(line) != 1 {
         return bad(d, out);
     }
-    let q = writing::put_answer(out, d.at, fit(image));
+    let q = writing::put_answer(out, d.at, image::number(image::check(image)));
     moved(d, writing::text(out, q, b"\n"))
-}
-
-// The image check's answer.
-fn fit(image: &[u8]) -> Answer {
-    match image::check(image) {
-        Fit::Short => Answer::Short,
-        Fit::Header => Answer::Header,
-        Fit::Content => Answer::Content,
-        Fit::Good(_) => Answer::Done,
-    }
 }
 
 fn dump_line(d: Desk, line: &[u8], image: &[u8], out: &mut [u8; 65536]) -> Desk {

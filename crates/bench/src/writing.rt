@@ -1,7 +1,6 @@
 // What is written, by way of a buffer: each function takes the place in it and gives the next.
 ghost use Prim.Native.Nat.{_<_};
 use libc::STDOUT_FILENO;
-use tag::Answer;
 use tag::Cover;
 use tag::Half;
 use tag::Link;
@@ -80,26 +79,6 @@ pub fn hex(out: &mut [u8; 65536], at: usize, bytes: &[u8]) -> usize {
 fn put_word(out: &mut [u8; 65536], at: usize, w: u16) -> usize {
     let q = two_digits(out, at, (w / 256) as u8);
     two_digits(out, q, (w % 256) as u8)
-}
-
-// An answer's number in the table.
-fn number(answer: Answer) -> u64 {
-    match answer {
-        Answer::Done => 0,
-        Answer::Short => 1,
-        Answer::Header => 2,
-        Answer::Content => 3,
-        Answer::NoRoom => 4,
-        Answer::NotReady => 5,
-        Answer::Port => 6,
-        Answer::Malformed => 7,
-        Answer::Checksum => 8,
-        Answer::Wrong => 9,
-        Answer::Error => 10,
-        Answer::PowerLost => 11,
-        Answer::Password => 12,
-        Answer::Count => 13,
-    }
 }
 
 fn put_cover(out: &mut [u8; 65536], at: usize, c: Cover) -> usize {
@@ -187,15 +166,15 @@ fn put_session(out: &mut [u8; 65536], at: usize, s: Session) -> usize {
     }
 }
 
-// An answer alone.
-pub fn put_answer(out: &mut [u8; 65536], at: usize, a: Answer) -> usize {
-    labelled(out, at, b"answer ", number(a))
+// The number of an answer alone.
+pub fn put_answer(out: &mut [u8; 65536], at: usize, n: u8) -> usize {
+    labelled(out, at, b"answer ", n as u64)
 }
 
 // A call's answer, stores and reply, with the room afterwards.
 fn call(out: &mut [u8; 65536], at: usize, o: Outcome, room: &[u8]) -> usize {
     let a = o.answer;
-    let q = put_answer(out, at, a);
+    let q = put_answer(out, at, tag::number(a));
     let q2 = labelled(out, q, b" stores ", o.stores as u64);
     let q3 = labelled(out, q2, b" reply ", o.reply as u64);
     let q4 = byte(out, q3, b' ');
@@ -219,7 +198,7 @@ pub fn put_outcome(out: &mut [u8; 65536], at: usize, o: Outcome, room: &[u8]) ->
 pub fn reading(out: &mut [u8; 65536], at: usize, o: Outcome) -> usize {
     let a = o.answer;
     let q = call(out, at, o, b"");
-    if number(a) == 0 {
+    if tag::number(a) == 0 {
         let q2 = labelled(out, q, b" value ", o.value as u64);
         return ending(out, q2, o);
     }

@@ -1,5 +1,6 @@
 // Words, bits and fields of lent bytes, the highest first. Past the end a byte reads 0, and a store there changes nothing.
 ghost use mathlib.Core.Path.{_≡_};
+ghost use mathlib.Core.Bool.{_&&_, _||_};
 ghost use Prim.Native.Nat.{_^_, _≤_, _<_};
 ghost use lib.ListN.{getD, set};
 ghost use Rattle.bits.specs.Words.{wordAt, withWord};
@@ -72,4 +73,18 @@ pub fn field(bytes: &[u8], at: usize, n: usize) -> u16
     ensures { λ r. ⌜ (r ≡ fieldAt (now (bytes .entry)) at n) × (r < 2 ^ n) ⌝ }
 {
     ((window(bytes, at / 8) >> (24 - at % 8 - n)) % (1 << n)) as u16
+}
+
+// `&&` as a call: a caller then has one path, and one equation for the test.
+pub fn both(a: bool, b: bool) -> bool
+    ensures { λ r. ⌜ r ≡ (a && b) ⌝ }
+{
+    a && b
+}
+
+// `||` as a call.
+pub fn either(a: bool, b: bool) -> bool
+    ensures { λ r. ⌜ r ≡ (a || b) ⌝ }
+{
+    a || b
 }

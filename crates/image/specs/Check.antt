@@ -23,6 +23,11 @@ meaning fit.Header = refused 2
 meaning fit.Content = refused 3
 meaning (fit.Good y) = good y
 
+-- the number in the answer table
+abbrev pub rowOf : Checked → ℕ
+rowOf (refused n) = n
+rowOf (good y) = 0
+
 abbrev pub short : List ℕ → Bool
 short m = ltb (length m) 32
 

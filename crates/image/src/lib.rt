@@ -1,13 +1,14 @@
 // The image: its layout, read from the header, and the check of its header and content rules (RULES 1).
 ghost use mathlib.Core.Path.{_≡_};
-ghost use mathlib.Core.Bool.{_&&_, _||_};
 ghost use Prim.Native.Nat.{_+_, _*_, _^_, _≤_, _<_};
 ghost use lib.Dec.{eqb};
 ghost use lib.ListN.{length};
 ghost use Rattle.bits.specs.Below.{every};
 ghost use Rattle.image.specs.Layout.{layoutOf, sectionAt, blocksIn, pairsIn, headerGood, end as endOf, within as withinOf, stands as standsOf};
-ghost use Rattle.image.specs.Check.{meaning, checkOf};
+ghost use Rattle.image.specs.Check.{meaning, rowOf, checkOf};
 ghost use Rattle.image.specs.Steps.{banksGood, spareIn, mayStand, between as betweenOf, mayTake, wordFits, lastIn, wordsFit, pairFits, contentFits};
+use bits::both;
+use bits::either;
 
 // A section: its offset in the image and its count, both in words.
 pub struct Section {
@@ -61,18 +62,6 @@ fn read_layout(image: &[u8]) -> Layout
         perma: read_section(image, 12),
         work: read_section(image, 14),
     }
-}
-
-fn both(a: bool, b: bool) -> bool
-    ensures { λ r. ⌜ r ≡ (a && b) ⌝ }
-{
-    a && b
-}
-
-fn either(a: bool, b: bool) -> bool
-    ensures { λ r. ⌜ r ≡ (a || b) ⌝ }
-{
-    a || b
 }
 
 fn within(least: usize, most: usize, n: usize) -> bool
@@ -269,4 +258,16 @@ pub fn check(image: &[u8]) -> Fit
         return Fit::Content;
     }
     Fit::Good(y)
+}
+
+// An answer's number in the table (RULES 5).
+pub fn number(fit: Fit) -> u8
+    ensures { λ r. ⌜ r ≡ rowOf (meaning fit) ⌝ }
+{
+    match fit {
+        Fit::Short => 1,
+        Fit::Header => 2,
+        Fit::Content => 3,
+        Fit::Good(_) => 0,
+    }
 }

@@ -43,17 +43,15 @@ fn sections(y: Layout) {
 }
 
 fn list(image: &[u8]) {
-    match image::check(image) {
-        Fit::Short => line(b"refused", 1),
-        Fit::Header => line(b"refused", 2),
-        Fit::Content => line(b"refused", 3),
-        Fit::Good(y) => {
-            sections(y);
-            line(b"blocks", image::blocks(y) as u64);
-            let c = bits::word(image, y.work.at as usize);
-            line(b"pending", c as u64);
-        }
-    }
+    let fit = image::check(image);
+    let Fit::Good(y) = fit else {
+        line(b"refused", image::number(fit) as u64);
+        return;
+    };
+    sections(y);
+    line(b"blocks", image::blocks(y) as u64);
+    let c = bits::word(image, y.work.at as usize);
+    line(b"pending", c as u64);
 }
 
 // Input of more bytes than the largest image has is of a wrong length.

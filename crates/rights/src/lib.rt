@@ -1,6 +1,6 @@
 // Which words a command may read and write, and the error code that it gets where it may not (RULES 3.18 to 3.22).
 ghost use mathlib.Core.Path.{_≡_};
-ghost use mathlib.Core.Bool.{not, _&&_, _||_};
+ghost use mathlib.Core.Bool.{not, _||_};
 ghost use Prim.Native.Nat.{_+_, _-_, _*_, _/_, _%_, _^_, _≤_, _<_};
 ghost use lib.Dec.{eqb, ltb};
 ghost use Rattle.bits.specs.Bits.{bitAt};
@@ -9,6 +9,8 @@ ghost use Rattle.image.specs.Layout.{blocksIn};
 ghost use Rattle.image.specs.Content.{permalock as permalockOf};
 ghost use Rattle.rights.specs.Rights.{bankOf, pwdBit, permaBit, opens as opensOf, pairOf, blockOpen, mayWrite, spanWords, beyond as beyondOf, badPc, readCode, writeCode, lockedTo, pairBreaks, somePermalock, userOpenForGood, lockCode, notPerma, permaReadCode, permaCode};
 ghost use Rattle.rights.specs.Steps.{firstLocked, restOpen};
+use bits::both;
+use bits::either;
 use frames::Span;
 use image::Layout;
 use image::Section;
@@ -23,18 +25,6 @@ pub enum Code {
 pub enum Found {
     At(usize),
     Nothing,
-}
-
-fn both(a: bool, b: bool) -> bool
-    ensures { λ r. ⌜ r ≡ (a && b) ⌝ }
-{
-    a && b
-}
-
-fn either(a: bool, b: bool) -> bool
-    ensures { λ r. ⌜ r ≡ (a || b) ⌝ }
-{
-    a || b
 }
 
 // a - b, or 0.

@@ -1,4 +1,7 @@
 // The tag: a session, and every operation on it and an image. Each has its answer for any input (RULES 5).
+ghost use mathlib.Core.Path.{_≡_};
+ghost use Rattle.tag.specs.Session.{numberOf};
+
 mod acting;
 mod answering;
 mod orders;
@@ -110,4 +113,26 @@ pub struct Plan {
     pub state: State,
     pub reply: Reply,
     pub change: Change,
+}
+
+// An answer's number in the table (RULES 5).
+pub fn number(answer: Answer) -> u8
+    ensures { λ r. ⌜ r ≡ numberOf answer ⌝ }
+{
+    match answer {
+        Answer::Done => 0,
+        Answer::Short => 1,
+        Answer::Header => 2,
+        Answer::Content => 3,
+        Answer::NoRoom => 4,
+        Answer::NotReady => 5,
+        Answer::Port => 6,
+        Answer::Malformed => 7,
+        Answer::Checksum => 8,
+        Answer::Wrong => 9,
+        Answer::Error => 10,
+        Answer::PowerLost => 11,
+        Answer::Password => 12,
+        Answer::Count => 13,
+    }
 }

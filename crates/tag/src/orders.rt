@@ -1,6 +1,6 @@
 // What an order asks of the session, and the state that it leaves (RULES 3.12 to 3.17).
 ghost use mathlib.Core.Path.{_≡_};
-ghost use mathlib.Core.Bool.{not, _&&_, _||_};
+ghost use mathlib.Core.Bool.{not, _||_};
 ghost use lib.Dec.{eqb};
 ghost use Rattle.tag.specs.declared.Half.the-variants as half;
 ghost use Rattle.tag.specs.Commands.{asks, asksOf, noLink, linkOf, isSecured, isKilled, hears as hearsOf, isCovered, uncovered as uncoveredOf, wrongCommand, killWord, accessWord, breaks as breaksOf, killCode, coveredBy, withLink, used as usedOf, halved as halvedOf, numbered as numberedOf, accessed as accessedOf, killed, stateAfter, killReply};
@@ -10,24 +10,14 @@ use crate::Half;
 use crate::Link;
 use crate::Part;
 use crate::State;
+use bits::both;
+use bits::either;
 use frames::Command;
 use frames::Order;
 use frames::Span;
 use image::Layout;
 use replies::Reply;
 use rights::Code;
-
-fn both(a: bool, b: bool) -> bool
-    ensures { λ r. ⌜ r ≡ (a && b) ⌝ }
-{
-    a && b
-}
-
-pub fn either(a: bool, b: bool) -> bool
-    ensures { λ r. ⌜ r ≡ (a || b) ⌝ }
-{
-    a || b
-}
 
 fn asking(early: bool, secured: bool, cover: bool, bad: bool, part: Part) -> Asks
     ensures { λ r. ⌜ r ≡ asks early secured cover bad part ⌝ }

@@ -86,7 +86,7 @@ fn with_unwritten(l: Live, b: bool) -> Session
     with_register(
         l,
         Register {
-            unwritten: orders::either(register.unwritten, b),
+            unwritten: bits::either(register.unwritten, b),
             killed: register.killed,
         },
     )

@@ -1,0 +1,121 @@
+// The worked image, the gate and the layout engine, over the tag's public operations.
+ghost use Prim.Native.Nat.{_+_, _<_};
+ghost use lib.ListN.{length};
+use tag::Outcome;
+
+// Where USER and WORK stand in the worked image (RULES 6.1).
+const USER: usize = 28;
+
+const WORK: usize = 45;
+
+pub const OLD: [u16; 7] = [3, 3, 6, 10, 24, 57, 0x1811];
+
+pub const NEW: [u16; 7] = [2, 3, 5, 12, 72, 0x1a25, 0];
+
+// Which entry some words are: one of the two whole, or neither.
+pub enum Seen {
+    Old,
+    New,
+    Mixed,
+}
+
+fn put(image: &mut [u8; 156], at: usize, words: &[u16])
+    requires { ⌜ at + length (now words) < 65536 ⌝ }
+{
+    let mut i = 0;
+    while i < words.len() {
+        bits::store_word(image, at + i, words[i]);
+        i += 1;
+    }
+}
+
+// Lays the worked image on zeros: the header, RESERVED, EPC, TID, and the old entry in USER.
+pub fn lay(image: &mut [u8; 156]) {
+    let header = [7, 4, 16, 2, 18, 4, 22, 4, 26, 2, 28, 16, 44, 1, 45, 33];
+    put(image, 0, &header);
+    let passwords = [0x4b49, 0x4c4c, 0, 0];
+    put(image, 18, &passwords);
+    let epc = [0x9297, 0x1000, 0x3034, 0x0257];
+    put(image, 22, &epc);
+    let tid = [0xe200, 0x6001];
+    put(image, 26, &tid);
+    let entry = OLD;
+    put(image, USER, &entry);
+}
+
+// Seven words, from word `at` on.
+fn taken(bytes: &[u8], at: usize) -> [u16; 7]
+    requires { ⌜ at < 65536 ⌝ }
+{
+    let mut words = [0u16; 7];
+    let mut i = 0;
+    while i < 7 {
+        words[i] = bits::word(bytes, at + i);
+        i += 1;
+    }
+    words
+}
+
+fn same(a: &[u16; 7], b: &[u16; 7]) -> bool {
+    let mut i = 0;
+    while i < 7 {
+        if a[i] != b[i] {
+            return false;
+        }
+        i += 1;
+    }
+    true
+}
+
+pub fn judged(words: &[u16; 7]) -> Seen {
+    let old = OLD;
+    if same(words, &old) {
+        return Seen::Old;
+    }
+    let new = NEW;
+    if same(words, &new) {
+        return Seen::New;
+    }
+    Seen::Mixed
+}
+
+// The pending count as it stands in WORK.
+pub fn pending(image: &[u8; 156]) -> u16 {
+    bits::word(image, WORK)
+}
+
+// The entry as it stands in USER.
+pub fn bank(image: &[u8; 156]) -> Seen {
+    let words = taken(image, USER);
+    judged(&words)
+}
+
+// The gate is admitted with the number 1234h, gets the handle A5C3h by Req_RN, and writes the new entry by BlockWrite with power for k stores.
+// A step that is refused leaves the next refused too, so the last answer tells.
+pub fn write(image: &mut [u8; 156], k: usize) -> Outcome {
+    let request = b"\xc1\x12\x34\x31\x62";
+    let order =
+        b"\xc7\xc0\x01\xc0\x00\x80\x00\xc0\x01\x40\x03\x00\x12\x06\x89\x40\x00\x29\x70\xfa\x37\x00";
+    let mut room = [0u8; 8];
+    let up = tag::power_up(image, 100);
+    let off = up.session;
+    let admitted = off.admit(0x1234);
+    let known = admitted.session;
+    let opened = known.frame(image, request, 40, 0xa5c3, &mut room, 0);
+    let linked = opened.session;
+    linked.frame(image, order, 170, 0, &mut room, k)
+}
+
+// The reader powers up, and the engine reads the entry into the room; the last answer tells here too.
+pub fn read(image: &mut [u8; 156], room: &mut [u8; 14]) -> Outcome {
+    let up = tag::power_up(image, 100);
+    let free = up.session;
+    let asked = free.ask();
+    let held = asked.session;
+    held.read(image, 0, 7, room)
+}
+
+// The entry that was read.
+pub fn entry(room: &[u8; 14]) -> [u16; 7] {
+    taken(room, 0)
+}

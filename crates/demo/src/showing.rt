@@ -1,0 +1,169 @@
+// What is written; each text is as wide as its column.
+use crate::playing;
+use crate::playing::Seen;
+use libc::STDOUT_FILENO;
+
+// How often the engine saw which entry.
+pub struct Sum {
+    pub old: u64,
+    pub new: u64,
+    pub mixed: u64,
+}
+
+fn text(words: &[u8]) {
+    io::write_all(STDOUT_FILENO, words);
+}
+
+fn number(n: u64) {
+    io::print_decimal(STDOUT_FILENO, n);
+}
+
+// A number in two columns.
+fn two(n: usize) {
+    if n < 10 {
+        text(b" ");
+    }
+    number(n as u64);
+}
+
+// A word in hex after a space.
+fn word(w: u16) {
+    text(b" ");
+    io::print_hex(STDOUT_FILENO, w as u64, 4);
+}
+
+fn entry(words: &[u16; 7]) {
+    let mut i = 0;
+    while i < 7 {
+        word(words[i]);
+        i += 1;
+    }
+}
+
+pub fn heading() {
+    text(
+        b"A gate writes a new loan entry over the old one by BlockWrite: seven words, 23 stores on the tag.\n",
+    );
+    text(
+        b"The power is cut after k of them. The bank is what the cut leaves in USER itself; then the reader\n",
+    );
+    text(b"powers up, and its layout engine reads the entry through the port.\n\nold entry ");
+    let old = playing::OLD;
+    entry(&old);
+    text(b"\nnew entry ");
+    let new = playing::NEW;
+    entry(&new);
+    text(b"\n\n k  stores made      pending  bank   the engine reads                    verdict\n");
+}
+
+// How far the first 22 of a write's 23 stores have come: 14 stage its pairs, one announces them, 7 are the words themselves.
+fn on_the_way(made: usize) {
+    if made < 15 {
+        text(b"staged ");
+        two(made);
+        text(b" of 14");
+        return;
+    }
+    if made == 15 {
+        text(b"announced      ");
+        return;
+    }
+    text(b"words ");
+    number(made as u64 - 15);
+    text(b" of 7   ");
+}
+
+// The cut and the stores made before it.
+pub fn cut(k: usize, made: usize) {
+    two(k);
+    text(b"  ");
+    if made == 0 {
+        text(b"nothing        ");
+        return;
+    }
+    if made == 23 {
+        text(b"finished       ");
+        return;
+    }
+    on_the_way(made);
+}
+
+// The pending count, and what stands in USER.
+pub fn bank(pending: u16, seen: Seen) {
+    text(b"        ");
+    number(pending as u64);
+    match seen {
+        Seen::Old => text(b"  old   "),
+        Seen::New => text(b"  new   "),
+        Seen::Mixed => text(b"  mixed "),
+    }
+}
+
+// What the engine read, to the line's end.
+pub fn engine(words: &[u16; 7], seen: Seen) {
+    entry(words);
+    match seen {
+        Seen::Old => text(b"  old entry, whole\n"),
+        Seen::New => text(b"  new entry, whole\n"),
+        Seen::Mixed => text(b"  MIXED\n"),
+    }
+}
+
+// A step that was answered with a number that the story doesn't have.
+pub fn failure(k: usize, step: &[u8], answer: u8) {
+    text(b"\nFAILED at k = ");
+    number(k as u64);
+    text(b": ");
+    text(step);
+    text(b" was answered ");
+    number(answer as u64);
+    text(b"\n");
+}
+
+pub fn begin() -> Sum {
+    Sum {
+        old: 0,
+        new: 0,
+        mixed: 0,
+    }
+}
+
+fn one_more(n: u64) -> u64 {
+    if n < u64::MAX {
+        return n + 1;
+    }
+    n
+}
+
+pub fn counted(s: Sum, seen: Seen) -> Sum {
+    match seen {
+        Seen::Old => Sum {
+            old: one_more(s.old),
+            new: s.new,
+            mixed: s.mixed,
+        },
+        Seen::New => Sum {
+            old: s.old,
+            new: one_more(s.new),
+            mixed: s.mixed,
+        },
+        Seen::Mixed => Sum {
+            old: s.old,
+            new: s.new,
+            mixed: one_more(s.mixed),
+        },
+    }
+}
+
+// The last line.
+pub fn total(cuts: usize, s: Sum) {
+    text(b"\n");
+    number(cuts as u64);
+    text(b" cuts: ");
+    number(s.old);
+    text(b" old, ");
+    number(s.new);
+    text(b" new, ");
+    number(s.mixed);
+    text(b" mixed\n");
+}

@@ -1,0 +1,108 @@
+#!/usr/bin/env python3
+"""Writes what the program demo must write: its story told by the model, with frames from build.py.
+
+The column of stores is taken from the list of stores that the model made, not from their number.
+"""
+
+import build
+import model
+
+OLD = [3, 3, 6, 10, 24, 57, 0x1811]
+NEW = [2, 3, 5, 12, 72, 0x1A25, 0]
+ADMISSION = 0x1234
+HANDLE = 0xA5C3
+ENOUGH = build.ENOUGH
+
+HEADING = """\
+A gate writes a new loan entry over the old one by BlockWrite: seven words, 23 stores on the tag.
+The power is cut after k of them. The bank is what the cut leaves in USER itself; then the reader
+powers up, and its layout engine reads the entry through the port.
+
+old entry  %s
+new entry  %s
+
+ k  stores made      pending  bank   the engine reads                    verdict
+"""
+
+
+# Words as the lines show them.
+def shown(words):
+    return " ".join("%04x" % w for w in words)
+
+
+# The radio frame of these bits, with power for s stores.
+def send(image, session, bits, fresh, s):
+    return model.radio_frame(image, session, len(bits), build.pack(bits), fresh, 64, s)
+
+
+# The gate writes the new entry with power for k stores; the stores made.
+def gate(image, k):
+    session = model.power_up(image, ENOUGH).session
+    session = model.admit(session, ADMISSION).session
+    session = send(image, session, build.req_rn(ADMISSION), HANDLE, 0).session
+    frame = build.block_write(build.BANK_USER, 0, NEW, HANDLE)
+    answer = send(image, session, frame, 0, k)
+    assert answer.number == (11 if k < 3 * len(NEW) + 2 else 0)
+    return answer.made
+
+
+# The engine's words after a whole power-up.
+def engine(image):
+    session = model.power_up(image, ENOUGH).session
+    session = model.ask(session).session
+    reply = model.spi_read(image, session, 0, len(NEW), 2 * len(NEW)).reply
+    return [int(reply[16 * k:16 * k + 16], 2) for k in range(len(NEW))]
+
+
+# What a list of stores has come to.
+def told(layout, made):
+    work, user = layout.offset["WORK"], layout.offset["USER"]
+    staging = [store for store in made if store[0] > work]
+    counts = [value for offset, value in made if offset == work]
+    words = [store for store in made if user <= store[0] < user + len(NEW)]
+    assert len(staging) + len(counts) + len(words) == len(made)
+    if counts == [len(NEW), 0]:
+        return "finished"
+    if words:
+        return "words %d of %d" % (len(words), len(NEW))
+    if counts:
+        return "announced"
+    if staging:
+        return "staged %2d of %d" % (len(staging), 2 * len(NEW))
+    return "nothing"
+
+
+# Which entry some words are.
+def seen(words):
+    return "old" if words == OLD else "new" if words == NEW else "mixed"
+
+
+VERDICTS = {"old": "old entry, whole", "new": "new entry, whole", "mixed": "MIXED"}
+
+
+# One cut: its line, and what the engine sees.
+def cut(k):
+    image = bytearray(build.Image().bytes())
+    layout = model.check_image(image)
+    made = gate(image, k)
+    bank = [model.section_word(image, layout, "USER", n) for n in range(len(NEW))]
+    pending = model.pending_count(image, layout)
+    words = engine(image)
+    line = "%2d  %-15s  %7d  %-5s  %s  %s" % (
+        k, told(layout, made), pending, seen(bank), shown(words), VERDICTS[seen(words)])
+    return line, seen(words)
+
+
+def main():
+    assert build.Image().user[:7] == OLD
+    print(HEADING % (shown(OLD), shown(NEW)), end="")
+    cuts = [cut(k) for k in range(3 * len(NEW) + 3)]
+    for line, _ in cuts:
+        print(line)
+    sights = [sight for _, sight in cuts]
+    print("\n%d cuts: %d old, %d new, %d mixed" % (
+        len(cuts), sights.count("old"), sights.count("new"), sights.count("mixed")))
+
+
+if __name__ == "__main__":
+    main()
