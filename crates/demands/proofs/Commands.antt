@@ -40,13 +40,13 @@ use Rattle.tag.specs.declared.Register.{Register}
 use Rattle.tag.specs.declared.State.{State}
 use Rattle.tag.specs.declared.State.the-variants as state
 use Rattle.tag.specs.declared.Session.{Session}
-use Rattle.tag.specs.Session.{offSession}
+use Rattle.tag.specs.Session.{offSession, on}
 use Rattle.tag.specs.Result.{Result}
 use Rattle.tag.specs.Commands.{asksOf, linkOf, isSecured, isCovered, isKilled, wrong, wrongCommand, killWord, accessWord, breaks, codeOf, used, stateAfter, replyAfter, wordsAfter}
 use Rattle.tag.specs.Table.{Input, input, said, malformed, checksumWrong, broken, errorCode, newState, doneReply, doneWords, isError, replyOr, replyOf, storesOf, fits, replied, rows, frameOf, admitOf, answered}
 use Rattle.tag.specs.Port.{isLinked, badCount, badData, refusals, transferred, registerTo, withKilled, withUnwritten, someUnwritten, writtenWords, readBits, portWords, askOf, releaseOf, registerOf, readOf, writeOf}
 use Rattle.demands.specs.Calls.{Idle}
-use Rattle.demands.specs.Commands.{Air, on, linked, link, done, answer, Enough, Says, Does, zeroAccess, zeroKill, Radio, Engine, Demand2}
+use Rattle.demands.specs.Commands.{Air, linked, link, done, answer, Enough, Says, Does, zeroAccess, zeroKill, Radio, Engine, Demand2}
 use Rattle.demands.proofs.Rows.{Rows, None, none-first}
 
 -- the frame that was heard as x comes to the last row
@@ -95,17 +95,40 @@ module _ (a : Air) (st : State) (r : Register) (idle : Idle (layoutOf (a .image)
     none : None (rows handed)
     unfolding handed
     none =
-        let c = check-0 (a .image) (layoutOf (a .image)) (sym (idle .sound)) in
-        (c .0, (c .1, (c .2,
-        (ap not (eq-eqb _ _ (idle .nothing)),
-        (refl,
-        (ap malformed h ∙ m,
-        (ap (checksumWrong (a .frame) (a .bits)) h ∙ k,
-        (ap (wrong st) h ∙ w,
-        (ap (broken handed) h ∙ b,
-        (ap (λ (q : Code). isError q && fits (replyOf handed) (a .room)) code-is,
-        (ap not fits-is,
-        (le-ltb (a .power) _ (subst (λ (ws : List Store). length (changeStores (layoutOf (a .image) .work .at) ws) ≤ a .power) (sym words-are) power), tt))))))))))))
+        let c = check-0 (a .image) (layoutOf (a .image)) (sym (idle .sound)) in (
+          c .0,
+          (
+            c .1,
+            (
+              c .2,
+              (
+                ap not (eq-eqb _ _ (idle .nothing)),
+                (
+                  refl,
+                  (
+                    ap malformed h ∙ m,
+                    (
+                      ap (checksumWrong (a .frame) (a .bits)) h ∙ k,
+                      (
+                        ap (wrong st) h ∙ w,
+                        (
+                          ap (broken handed) h ∙ b,
+                          (
+                            ap (λ (q : Code). isError q && fits (replyOf handed) (a .room)) code-is,
+                            (
+                              ap not fits-is,
+                              (le-ltb (a .power) _ (subst (λ (ws : List Store). length (changeStores (layoutOf (a .image) .work .at) ws) ≤ a .power) (sym words-are) power), tt),
+                            ),
+                          ),
+                        ),
+                      ),
+                    ),
+                  ),
+                ),
+              ),
+            ),
+          ),
+        )
 
     last-row : answer a st r ≡ given (doneReply handed x) (newState handed x) (doneWords handed x)
     unfolding frameOf handed given

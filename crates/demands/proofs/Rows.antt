@@ -171,11 +171,37 @@ module _ (v : Session) (m f : List ℕ) (bits fresh : ℕ) (room : List ℕ) (g 
     same-front : None (front a) → None (front b)
     unfolding with-power front
     same-front h =
-        let r = h .1 .1 .1 .1 .1 .1 .1 .1 in
-        (h .0, (h .1 .0, (h .1 .1 .0, (h .1 .1 .1 .0, (h .1 .1 .1 .1 .0, (h .1 .1 .1 .1 .1 .0, (h .1 .1 .1 .1 .1 .1 .0, (h .1 .1 .1 .1 .1 .1 .1 .0,
-        (sym (same-broken (heardOf f bits)) ∙ r .0,
-        (ap₂ (λ (e : Code) (q : Reply). isError e && fits q room) (sym (same-code (heardOf f bits))) (sym same-reply) ∙ r .1 .0,
-        (ap (λ (q : Reply). not (fits q room)) (sym same-reply) ∙ r .1 .1 .0, tt)))))))))))
+        let r = h .1 .1 .1 .1 .1 .1 .1 .1 in (
+          h .0,
+          (
+            h .1 .0,
+            (
+              h .1 .1 .0,
+              (
+                h .1 .1 .1 .0,
+                (
+                  h .1 .1 .1 .1 .0,
+                  (
+                    h .1 .1 .1 .1 .1 .0,
+                    (
+                      h .1 .1 .1 .1 .1 .1 .0,
+                      (
+                        h .1 .1 .1 .1 .1 .1 .1 .0,
+                        (
+                          sym (same-broken (heardOf f bits)) ∙ r .0,
+                          (
+                            ap₂ (λ (e : Code) (q : Reply). isError e && fits q room) (sym (same-code (heardOf f bits))) (sym same-reply) ∙ r .1 .0,
+                            (ap (λ (q : Reply). not (fits q room)) (sym same-reply) ∙ r .1 .1 .0, tt),
+                          ),
+                        ),
+                      ),
+                    ),
+                  ),
+                ),
+              ),
+            ),
+          ),
+        )
 
   words-plan : None (front 0) → Plan (layoutOf m) m words
   unfolding with-power front words

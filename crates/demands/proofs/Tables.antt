@@ -24,14 +24,14 @@ use Rattle.tag.specs.declared.State.{State}
 use Rattle.tag.specs.declared.State.the-variants as state
 use Rattle.tag.specs.declared.Session.{Session}
 use Rattle.tag.specs.Session.{offSession, newSession}
-use Rattle.tag.specs.Result.{Result}
+use Rattle.tag.specs.Result.{Result, leaves}
 use Rattle.tag.specs.One.{one-outcome}
 use Rattle.tag.specs.Commands.{isKilled, used}
 use Rattle.tag.specs.Power.{poweredTo, firstIn, started, powerUpOf}
 use Rattle.tag.specs.Table.{Input, input, said, live, stateOf, liveOf, isOff, isArbitrate, newState, replyOf, storesOf, movedTo, everything, dropped, cut, replied, rows, frameOf, answered, admitOf}
 use Rattle.tag.specs.Port.{isLinked, heldTo, told, askOf, releaseOf, registerOf, badCount, badData, readBits, portWords, someUnwritten, registerTo, withKilled, withUnwritten, transferred, refusals, readOf, writeOf}
 use Rattle.demands.specs.Calls.{Call, powerUp, admit, frame, ask, release, register, read, write, Tag, answerOf, sessionIn, imageIn, roomIn, powerIn, storesIn}
-use Rattle.demands.specs.Demands.{leaving, refuses, Tabled, Demand1}
+use Rattle.demands.specs.Demands.{refuses, Tabled, Demand1}
 use Rattle.demands.proofs.Rows.{Each, first-each}
 
 never : false ≡ true → ⊥
@@ -51,7 +51,7 @@ silence m room (reply.Error c h) e = absurd (omega arith)
 
 module _ (t : Tag) (c : Call) where
   -- a refusal, and answer 0
-  refusal : (n : ℕ) → refuses n ≡ true → Tabled t c (leaving t c n (sessionIn t c))
+  refusal : (n : ℕ) → refuses n ≡ true → Tabled t c (leaves n (sessionIn t c) (imageIn t c) (roomIn c))
   refusal n e =
       record {
         listed = refusal-small n e;
@@ -121,9 +121,31 @@ module _ (v : Session) (m f : List ℕ) (bits fresh : ℕ) (room : List ℕ) (s 
 
   frame-rows : Each (Tabled tag call) (rows handed)
   unfolding tag call handed
-  frame-rows =
-      (refusal tag call 1 refl, (refusal tag call 2 refl, (refusal tag call 3 refl, (refusal tag call 5 refl, (refusal tag call 6 refl, (refusal tag call 7 refl, (refusal tag call 8 refl, (refusal tag call 9 refl,
-      (dropped-row, (error-row, (refusal tag call 4 refl, (lost-answer tag call, tt))))))))))))
+  frame-rows = (
+    refusal tag call 1 refl,
+    (
+      refusal tag call 2 refl,
+      (
+        refusal tag call 3 refl,
+        (
+          refusal tag call 5 refl,
+          (
+            refusal tag call 6 refl,
+            (
+              refusal tag call 7 refl,
+              (
+                refusal tag call 8 refl,
+                (
+                  refusal tag call 9 refl,
+                  (dropped-row, (error-row, (refusal tag call 4 refl, (lost-answer tag call, tt)))),
+                ),
+              ),
+            ),
+          ),
+        ),
+      ),
+    ),
+  )
 
   frame-tabled : Tabled tag call (frameOf handed)
   unfolding frameOf tag call handed

@@ -32,12 +32,11 @@ use Rattle.tag.specs.declared.Link.{Link}
 use Rattle.tag.specs.declared.Register.{Register}
 use Rattle.tag.specs.declared.State.{State}
 use Rattle.tag.specs.declared.State.the-variants as state
-use Rattle.tag.specs.declared.Power.the-variants as power
-use Rattle.tag.specs.declared.Session.{Session}
+use Rattle.tag.specs.Session.{on, clear}
 use Rattle.tag.specs.Result.{Result}
 use Rattle.tag.specs.Commands.{accessWord, killWord, isKilled}
 use Rattle.tag.specs.Table.{input, frameOf, answered, admitOf}
-use Rattle.tag.specs.Port.{isLinked, numberIn, clear, writtenWords, someUnwritten, transferred, told, askOf, releaseOf, registerOf, readOf, writeOf, withUnwritten, withKilled}
+use Rattle.tag.specs.Port.{isLinked, numberIn, writtenWords, someUnwritten, transferred, askOf, releaseOf, registerOf, readOf, writeOf, withUnwritten}
 use Rattle.demands.specs.Calls.{Idle}
 
 -- what a frame call is handed beside the session: image, frame, bit count, fresh word, room and power
@@ -48,10 +47,6 @@ pub record Air : Type 0 where
   pub fresh : ℕ
   pub room : List ℕ
   pub power : ℕ
-
--- a session with the port free or held
-abbrev pub on : State → Bool → Register → Session
-on st held r = record { power = power.On (record { state = st; held = held; register = r }) }
 
 -- Open, or where the flag is set Secured
 abbrev pub linked : Bool → Link → State

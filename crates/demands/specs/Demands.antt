@@ -15,18 +15,13 @@ use Rattle.tag.specs.declared.State.the-variants as state
 use Rattle.tag.specs.declared.Session.{Session}
 use Rattle.tag.specs.declared.Outcome.{Outcome}
 use Rattle.tag.specs.Session.{offSession}
-use Rattle.tag.specs.Result.{Result}
+use Rattle.tag.specs.Result.{Result, leaves}
 use Rattle.tag.specs.Commands.{used}
 use Rattle.tag.specs.Table.{liveOf, movedTo}
 use Rattle.tag.specs.Power.{powerUpOf}
 use Rattle.demands.specs.Calls.{Call, frame, write, Tag, answerOf, Meets, sessionIn, imageIn, roomIn, powerIn, storesIn, run, Idle}
 
 -- DEMAND 1. Every image, frame and SPI transaction that can be handed over gets one answer of the table; a refusal leaves what the table says.
-
--- an answer with everything as it was
-abbrev pub leaving : Tag → Call → ℕ → Session → Result
-leaving t c n session =
-    record { number = n; session = session; reply = 0; stores = 0; value = 0; image = imageIn t c; room = roomIn c }
 
 -- the numbers that leave everything
 abbrev pub refuses : ℕ → Bool
@@ -36,12 +31,12 @@ refuses n = within 1 9 n || eqb n 13
 -- 12 leaves the image, Arbitrate and no reply; and an answer without a reply changes no byte of the room
 pub record Tabled (t : Tag) (c : Call) (r : Result) : Type 0 where
   pub listed : r .number ≤ 13
-  pub refused : refuses (r .number) ≡ true → r ≡ leaving t c (r .number) (sessionIn t c)
+  pub refused : refuses (r .number) ≡ true → r ≡ leaves (r .number) (sessionIn t c) (imageIn t c) (roomIn c)
   pub error : r .number ≡ 10
       → (r .image ≡ imageIn t c) × (r .stores ≡ 0) × (let l = liveOf (t .session .power) in r .session ≡ movedTo l (used (l .state)))
   pub lost : r .number ≡ 11
       → r ≡ record { number = 11; session = offSession; reply = 0; stores = powerIn c; value = 0; image = after (imageIn t c) (take (powerIn c) (storesIn t c)); room = roomIn c }
-  pub dropped : r .number ≡ 12 → r ≡ leaving t c 12 (movedTo (liveOf (t .session .power)) state.Arbitrate)
+  pub dropped : r .number ≡ 12 → r ≡ leaves 12 (movedTo (liveOf (t .session .power)) state.Arbitrate) (imageIn t c) (roomIn c)
   pub silent : r .reply ≡ 0 → r .room ≡ roomIn c
 
 pub record Demand1 : Type 0 where

@@ -1,6 +1,9 @@
-pub mod Worked
-pub mod Ports
-pub mod Wrong
 pub mod Calls
 pub mod Demands
 pub mod Commands
+pub mod Worked
+pub mod Ports
+pub mod Wrong
+pub mod Cases
+pub mod Empty
+pub mod Met

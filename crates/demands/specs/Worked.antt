@@ -1,4 +1,4 @@
--- Power-up and frames on the worked image, computed (RULES 6.2 and 6.3), and wrong answers that the promises rule out. Assumes nothing.
+-- Power-up and frames on the worked image, computed (RULES 6.3), and wrong answers that the promises rule out. Assumes nothing.
 use Prim.Native.Nat.{ℕ}
 use mathlib.Core.Path.{_≡_, refl, sym, ap, _∙_}
 use mathlib.Core.Bool.{Bool, true, false}
@@ -15,7 +15,7 @@ use Rattle.image.specs.Worked.{worked, pendingOne}
 use Rattle.frames.specs.Frames.{heardOf, checksumRight}
 use Rattle.replies.specs.Pack.{filled, packed}
 use Rattle.replies.specs.Replies.{checked}
-use Rattle.rights.specs.Rights.{readCode, writeCode, lockedTo, lockCode}
+use Rattle.rights.specs.Rights.{readCode, writeCode}
 use Rattle.stores.specs.Stores.{powerStores}
 use Rattle.tag.specs.declared.Cover.the-variants as cover
 use Rattle.tag.specs.declared.Half.the-variants as half
@@ -100,26 +100,25 @@ powered = record { idle = refl; no-power = refl; pending-cut = refl; pending-kil
 pub record Sent : Type 0 where
   pub numbered : frameOf (input (newSession (state.Acknowledged 0xBEEF)) worked reqRn 40 0x1234 (replicate 12 0xAA) 0) .session ≡ usedUp
   pub numbered-room : frameOf (input (newSession (state.Acknowledged 0xBEEF)) worked reqRn 40 0x1234 (replicate 12 0xAA) 0) .room ≡ 0x12 ∷ 0x34 ∷ 0xF1 ∷ 0x36 ∷ 0xAA ∷ 0xAA ∷ 0xAA ∷ 0xAA ∷ 0xAA ∷ 0xAA ∷ 0xAA ∷ 0xAA ∷ []
-  pub p7 : sent worked write3 66 5 .number ≡ 0
-  pub p7-stores : sent worked write3 66 5 .stores ≡ 5
-  pub p7-session : sent worked write3 66 5 .session ≡ usedUp
-  pub p7-room : sent worked write3 66 5 .room ≡ 0x09 ∷ 0x1A ∷ 0x6B ∷ 0x13 ∷ 0x80 ∷ 0xAA ∷ 0xAA ∷ 0xAA ∷ 0xAA ∷ 0xAA ∷ 0xAA ∷ 0xAA ∷ []
-  pub p7-word : wordAt (sent worked write3 66 5 .image) 31 ≡ 0xABCD
-  pub p8 : sent worked write3 66 2 .number ≡ 11
-  pub p8-session : sent worked write3 66 2 .session ≡ offSession
+  pub written : sent worked write3 66 5 .number ≡ 0
+  pub written-stores : sent worked write3 66 5 .stores ≡ 5
+  pub written-session : sent worked write3 66 5 .session ≡ usedUp
+  pub written-room : sent worked write3 66 5 .room ≡ 0x09 ∷ 0x1A ∷ 0x6B ∷ 0x13 ∷ 0x80 ∷ 0xAA ∷ 0xAA ∷ 0xAA ∷ 0xAA ∷ 0xAA ∷ 0xAA ∷ 0xAA ∷ []
+  pub written-word : wordAt (sent worked write3 66 5 .image) 31 ≡ 0xABCD
+  pub cut : sent worked write3 66 2 .number ≡ 11
+  pub cut-stores : sent worked write3 66 2 .stores ≡ 2
+  pub cut-session : sent worked write3 66 2 .session ≡ offSession
+  pub cut-word : wordAt (sent worked write3 66 1 .image) 31 ≡ 10
   pub no-room : frameOf (input secured worked write3 66 0 (replicate 4 0xAA) 5) .number ≡ 4
   pub shows : sent worked readTwo 58 0 .room ≡ 0x00 ∷ 0x03 ∷ 0x00 ∷ 0x05 ∷ 0x09 ∷ 0x1A ∷ 0x7D ∷ 0x2E ∷ 0x80 ∷ 0xAA ∷ 0xAA ∷ 0xAA ∷ []
 
 pub sent-cases : Sent
 unfolding frameOf layoutOf headerGood blocksIn contentGood rulesHold worked wordAt withWord wordsBits bitsOf crcOf fieldAt pointerAt heardOf checksumRight filled packed checked readCode writeCode reqRn write3 readTwo
 sent-cases =
-    record { numbered = refl; numbered-room = refl; p7 = refl; p7-stores = refl; p7-session = refl; p7-room = refl; p7-word = refl; p8 = refl; p8-session = refl; no-room = refl; shows = refl }
+    record { numbered = refl; numbered-room = refl; written = refl; written-stores = refl; written-session = refl; written-room = refl; written-word = refl; cut = refl; cut-stores = refl; cut-session = refl; cut-word = refl; no-room = refl; shows = refl }
 
--- P10, P11 and the limits
+-- the limits
 pub record Limits : Type 0 where
-  pub p10 : wordAt (sent locked lock10 60 5 .image) 16 ≡ 0x0023
-  pub p11 : sent locked lock11 60 5 .room ≡ 0x82 ∷ 0x09 ∷ 0x1A ∷ 0x67 ∷ 0xAA ∷ 0x00 ∷ 0xAA ∷ 0xAA ∷ 0xAA ∷ 0xAA ∷ 0xAA ∷ 0xAA ∷ []
-  pub p11-number : sent locked lock11 60 5 .number ≡ 10
   pub user-15 : sent worked write15 66 5 .number ≡ 0
   pub user-16 : sent worked write16 66 5 .room ≡ 0x81 ∷ 0x89 ∷ 0x1A ∷ 0x25 ∷ 0x62 ∷ 0x00 ∷ 0xAA ∷ 0xAA ∷ 0xAA ∷ 0xAA ∷ 0xAA ∷ 0xAA ∷ []
   pub l-2 : sent worked pc2 66 5 .number ≡ 0
@@ -128,8 +127,8 @@ pub record Limits : Type 0 where
   pub words-17 : sent worked block17 330 50 .room ≡ 0x81 ∷ 0x89 ∷ 0x1A ∷ 0x25 ∷ 0x62 ∷ 0x00 ∷ 0xAA ∷ 0xAA ∷ 0xAA ∷ 0xAA ∷ 0xAA ∷ 0xAA ∷ []
 
 pub limits : Limits
-unfolding frameOf layoutOf headerGood blocksIn contentGood rulesHold worked wordAt withWord wordsBits bitsOf crcOf fieldAt pointerAt heardOf checksumRight filled packed checked readCode writeCode lockedTo lockCode write15 write16 lock10 lock11 pc2 pc3 block16 block17
-limits = record { p10 = refl; p11 = refl; p11-number = refl; user-15 = refl; user-16 = refl; l-2 = refl; l-3 = refl; words-16 = refl; words-17 = refl }
+unfolding frameOf layoutOf headerGood blocksIn contentGood rulesHold worked wordAt withWord wordsBits bitsOf crcOf fieldAt pointerAt heardOf checksumRight filled packed checked readCode writeCode write15 write16 pc2 pc3 block16 block17
+limits = record { user-15 = refl; user-16 = refl; l-2 = refl; l-3 = refl; words-16 = refl; words-17 = refl }
 
 -- wrong answers that the promises rule out: a power-up that makes no store, a frame that is refused where it is done, and one whose stores are invented
 pub never-lazy : powerUpOf worked 1 ≡ poweredTo 0 (newSession state.Arbitrate) 0 worked → ⊥
@@ -138,7 +137,7 @@ never-lazy e =
     omega arith
 
 pub never-refused : sent worked write3 66 5 .number ≡ 9 → ⊥
-never-refused e = let z : _≡_ {A = ℕ} 0 9 = sym (sent-cases .p7) ∙ e in omega arith
+never-refused e = let z : _≡_ {A = ℕ} 0 9 = sym (sent-cases .written) ∙ e in omega arith
 
 pub never-invented : sent worked write3 66 5 .stores ≡ 1 → ⊥
-never-invented e = let z : _≡_ {A = ℕ} 5 1 = sym (sent-cases .p7-stores) ∙ e in omega arith
+never-invented e = let z : _≡_ {A = ℕ} 5 1 = sym (sent-cases .written-stores) ∙ e in omega arith

@@ -37,6 +37,9 @@ headerWrong m = not (headerGood (layoutOf m) m)
 abbrev pub contentBroken : List ℕ → Bool
 contentBroken m = not (contentGood (layoutOf m) m)
 
+-- the rows that an image alone decides, given what each number leaves
+abbrev pub imageRows : {A : Type 0} → (ℕ → A) → List ℕ → List (A × Bool)
+imageRows leaving m = (leaving 1, short m) ∷ (leaving 2, headerWrong m) ∷ (leaving 3, contentBroken m) ∷ []
+
 unfoldable pub checkOf : List ℕ → Checked
-checkOf m =
-    first ((refused 1, short m) ∷ (refused 2, headerWrong m) ∷ (refused 3, contentBroken m) ∷ []) (good (layoutOf m))
+checkOf m = first (imageRows refused m) (good (layoutOf m))

@@ -11,7 +11,7 @@ use Rattle.bits.specs.First.{first}
 use Rattle.image.specs.declared.Layout.{Layout}
 use Rattle.image.specs.Layout.{layoutOf, pairsIn}
 use Rattle.image.specs.Content.{countIn, lockWord}
-use Rattle.image.specs.Check.{short, headerWrong, contentBroken}
+use Rattle.image.specs.Check.{imageRows}
 use Rattle.rights.specs.Rights.{pwdBit, blockOpen}
 use Rattle.replies.specs.Pack.{packed}
 use Rattle.stores.specs.Stores.{changeStores}
@@ -19,19 +19,18 @@ use Rattle.tag.specs.declared.State.{State}
 use Rattle.tag.specs.declared.State.the-variants as state
 use Rattle.tag.specs.declared.Register.{Register}
 use Rattle.tag.specs.declared.Live.{Live}
-use Rattle.tag.specs.declared.Power.the-variants as power
 use Rattle.tag.specs.declared.Session.{Session}
-use Rattle.tag.specs.Session.{offSession}
-use Rattle.tag.specs.Result.{Result}
+use Rattle.tag.specs.Session.{offSession, on, clear}
+use Rattle.tag.specs.Result.{Result, leaves}
 use Rattle.tag.specs.Commands.{isKilled, accessWord}
 use Rattle.tag.specs.Table.{isOff, liveOf, answered}
 
 -- a session with its port held or free, or with another register
 abbrev pub heldTo : Live → Bool → Session
-heldTo l b = record { power = power.On (record { state = l .state; held = b; register = l .register }) }
+heldTo l b = on (l .state) b (l .register)
 
 abbrev pub registerTo : Live → Register → Session
-registerTo l r = record { power = power.On (record { state = l .state; held = l .held; register = r }) }
+registerTo l r = on (l .state) (l .held) r
 
 -- 4.1: asking is granted unless the state is Open or Secured or the port is held
 abbrev pub isLinked : State → Bool
@@ -59,9 +58,6 @@ bitOf b = cond b 1 0
 abbrev pub numberIn : Register → ℕ
 numberIn r = 2 * bitOf (r .unwritten) + bitOf (r .killed)
 
-abbrev pub clear : Register
-clear = record { unwritten = false; killed = false }
-
 -- 4.6: the register as a number, and cleared
 abbrev pub told : Live → Result
 told l =
@@ -79,7 +75,7 @@ withKilled r = record { unwritten = r .unwritten; killed = true }
 abbrev pub withUnwritten : Bool → Register → Register
 withUnwritten b r = record { unwritten = r .unwritten || b; killed = r .killed }
 
--- a transfer's answer, session, stores made, image and room
+-- a transfer's answer, session, reply, stores made, image and room
 abbrev pub transferred : ℕ → Session → ℕ → ℕ → List ℕ → List ℕ → Result
 transferred number session reply stores image room =
     record { number = number; session = session; reply = reply; stores = stores; value = 0; image = image; room = room }
@@ -88,12 +84,11 @@ transferred number session reply stores image room =
 abbrev pub refusals : Session → List ℕ → List ℕ → Bool → List (Result × Bool)
 refusals s m room bad =
     let l = liveOf (s .power) in
-    (transferred 1 s 0 0 m room, short m)
-    ∷ (transferred 2 s 0 0 m room, headerWrong m)
-    ∷ (transferred 3 s 0 0 m room, contentBroken m)
-    ∷ (transferred 5 s 0 0 m room, isOff (s .power) || not (eqb (countIn (layoutOf m) m) 0))
-    ∷ (transferred 6 s 0 0 m room, not (l .held))
-    ∷ (transferred 13 s 0 0 m room, bad)
+    let everything : ℕ → Result = λ n. leaves n s m room in
+    imageRows everything m
+    ++ (everything 5, isOff (s .power) || not (eqb (countIn (layoutOf m) m) 0))
+    ∷ (everything 6, not (l .held))
+    ∷ (everything 13, bad)
     ∷ []
 
 -- count words of USER from word `at` on: none, more than 255, or past its end
@@ -110,7 +105,7 @@ readOf s m at count room =
     let l = liveOf (s .power) in
     let y = layoutOf m in
     let killed = isKilled (l .state) in
-    first (refusals s m room (badCount y at count) ++ ((transferred 4 s 0 0 m room, ltb (length room) (2 * count)) ∷ []))
+    first (refusals s m room (badCount y at count) ++ ((leaves 4 s m room, ltb (length room) (2 * count)) ∷ []))
     (transferred 0 (registerTo l (cond killed (withKilled (l .register)) (l .register))) (16 * count) 0 m (packed (readBits y m killed at count) room))
 
 -- 4.4: a USER word that the port may write

@@ -1,7 +1,7 @@
 -- Power-up's answers, in order (RULES 2.6, 2.7 and 5): 1, 2, 3, 11. Assumes nothing.
 use Prim.Native.Nat.{ℕ}
-use mathlib.Core.Bool.{Bool, cond}
-use mathlib.Core.List.{List, [], _∷_}
+use mathlib.Core.Bool.{cond}
+use mathlib.Core.List.{List, []}
 use lib.Dec.{eqb, ltb}
 use lib.ListN.{length, take}
 use Rattle.bits.specs.Words.{after}
@@ -9,15 +9,15 @@ use Rattle.bits.specs.First.{first}
 use Rattle.image.specs.declared.Layout.{Layout}
 use Rattle.image.specs.Layout.{layoutOf}
 use Rattle.image.specs.Content.{killedWord}
-use Rattle.image.specs.Check.{short, headerWrong, contentBroken}
+use Rattle.image.specs.Check.{imageRows}
 use Rattle.stores.specs.Stores.{powerStores}
 use Rattle.tag.specs.declared.State.{State}
 use Rattle.tag.specs.declared.State.the-variants as state
 use Rattle.tag.specs.declared.Session.{Session}
 use Rattle.tag.specs.Session.{offSession, newSession}
-use Rattle.tag.specs.Result.{Result}
+use Rattle.tag.specs.Result.{Result, leaves}
 
--- a power-up's answer, session, stores made and image
+-- a power-up that stores: its answer, session, stores made and image
 abbrev pub poweredTo : ℕ → Session → ℕ → List ℕ → Result
 poweredTo number session stores image =
     record { number = number; session = session; reply = 0; stores = stores; value = 0; image = image; room = [] }
@@ -34,10 +34,4 @@ started y m s =
     (poweredTo 0 (newSession (firstIn y (after m stores))) (length stores) (after m stores))
 
 unfoldable pub powerUpOf : List ℕ → ℕ → Result
-powerUpOf m s =
-    first
-    ((poweredTo 1 offSession 0 m, short m)
-    ∷ (poweredTo 2 offSession 0 m, headerWrong m)
-    ∷ (poweredTo 3 offSession 0 m, contentBroken m)
-    ∷ [])
-    (started (layoutOf m) m s)
+powerUpOf m s = first (imageRows (λ n. leaves n offSession m []) m) (started (layoutOf m) m s)

@@ -15,6 +15,11 @@ pub record Result : Type 0 where
   pub image : List ℕ
   pub room : List ℕ
 
+-- an answer with no reply and no store: its number, the session, the image and the room
+abbrev pub leaves : ℕ → Session → List ℕ → List ℕ → Result
+leaves number session image room =
+    record { number = number; session = session; reply = 0; stores = 0; value = 0; image = image; room = room }
+
 -- an outcome with the image and the room afterwards
 abbrev pub result : Outcome → List ℕ → List ℕ → Result
 result o image room =

@@ -1,7 +1,8 @@
 -- Sessions and the numbers of the answer table (RULES 3.1, 3.3 and 5). Assumes nothing.
 use Prim.Native.Nat.{ℕ}
-use mathlib.Core.Bool.{false}
+use mathlib.Core.Bool.{Bool, false}
 use Rattle.tag.specs.declared.State.{State}
+use Rattle.tag.specs.declared.Register.{Register}
 use Rattle.tag.specs.declared.Power.the-variants as power
 use Rattle.tag.specs.declared.Session.{Session}
 use Rattle.tag.specs.declared.Answer.{Answer}
@@ -10,10 +11,16 @@ use Rattle.tag.specs.declared.Answer.the-variants as answer
 abbrev pub offSession : Session
 offSession = record { power = power.Off }
 
+-- a session under power: state, port and register
+abbrev pub on : State → Bool → Register → Session
+on state held register = record { power = power.On (record { state = state; held = held; register = register }) }
+
+abbrev pub clear : Register
+clear = record { unwritten = false; killed = false }
+
 -- 2.7: port free, register 0
 abbrev pub newSession : State → Session
-newSession state =
-    record { power = power.On (record { state = state; held = false; register = record { unwritten = false; killed = false } }) }
+newSession state = on state false clear
 
 -- the number of each answer
 abbrev pub numberOf : Answer → ℕ

@@ -1,7 +1,7 @@
 -- The answer table for frames, in its order (RULES 5). Assumes nothing.
 use Prim.Native.Nat.{ℕ}
 use mathlib.Core.Bool.{Bool, true, false, not, _&&_, _||_}
-use mathlib.Core.List.{List, [], _∷_}
+use mathlib.Core.List.{List, [], _∷_, _++_}
 use lib.Dec.{eqb, ltb}
 use lib.ListN.{length, take}
 use Rattle.bits.specs.Words.{Store, after}
@@ -9,7 +9,7 @@ use Rattle.bits.specs.First.{first}
 use Rattle.image.specs.declared.Layout.{Layout}
 use Rattle.image.specs.Layout.{layoutOf}
 use Rattle.image.specs.Content.{countIn}
-use Rattle.image.specs.Check.{short, headerWrong, contentBroken}
+use Rattle.image.specs.Check.{imageRows}
 use Rattle.frames.specs.declared.Heard.{Heard}
 use Rattle.frames.specs.declared.Heard.the-variants as heard
 use Rattle.frames.specs.Frames.{heardOf, checksumRight}
@@ -26,8 +26,8 @@ use Rattle.tag.specs.declared.Live.{Live}
 use Rattle.tag.specs.declared.Power.{Power}
 use Rattle.tag.specs.declared.Power.the-variants as power
 use Rattle.tag.specs.declared.Session.{Session}
-use Rattle.tag.specs.Session.{offSession}
-use Rattle.tag.specs.Result.{Result}
+use Rattle.tag.specs.Session.{offSession, on, clear}
+use Rattle.tag.specs.Result.{Result, leaves}
 use Rattle.tag.specs.Commands.{asksOf, linkOf, isSecured, wrong, breaks, codeOf, used, stateAfter, replyAfter, wordsAfter}
 
 -- what a frame call is handed
@@ -52,7 +52,7 @@ isOff (power.On l) = false
 
 -- of an Off session nothing is asked past answer 5: a free one in Arbitrate stands in
 abbrev pub liveOf : Power → Live
-liveOf power.Off = record { state = state.Arbitrate; held = false; register = record { unwritten = false; killed = false } }
+liveOf power.Off = record { state = state.Arbitrate; held = false; register = clear }
 liveOf (power.On l) = l
 
 abbrev pub live : Input → Live
@@ -118,24 +118,14 @@ fits r room = not (ltb (length room) (replyBytes r))
 
 -- the session in another state; port and register stay
 abbrev pub movedTo : Live → State → Session
-movedTo l st = record { power = power.On (record { state = st; held = l .held; register = l .register }) }
+movedTo l st = on st (l .held) (l .register)
 
 -- what answers leave: everything; Arbitrate; the first s stores, Off and no reply; a reply with its state and stores
 abbrev pub everything : Input → ℕ → Result
-everything i n =
-    record { number = n; session = i .session; reply = 0; stores = 0; value = 0; image = i .image; room = i .room }
+everything i n = leaves n (i .session) (i .image) (i .room)
 
 abbrev pub dropped : Input → Result
-dropped i =
-    record {
-      number = 12;
-      session = movedTo (live i) state.Arbitrate;
-      reply = 0;
-      stores = 0;
-      value = 0;
-      image = i .image;
-      room = i .room;
-    }
+dropped i = leaves 12 (movedTo (live i) state.Arbitrate) (i .image) (i .room)
 
 abbrev pub cut : Input → Result
 cut i =
@@ -164,10 +154,8 @@ replied i n st ss =
 -- THE TABLE: what is left, and when
 abbrev pub rows : Input → List (Result × Bool)
 rows i =
-    (everything i 1, short (i .image))
-    ∷ (everything i 2, headerWrong (i .image))
-    ∷ (everything i 3, contentBroken (i .image))
-    ∷ (everything i 5, isOff (i .session .power) || not (eqb (countIn (layout i) (i .image)) 0))
+    imageRows (everything i) (i .image)
+    ++ (everything i 5, isOff (i .session .power) || not (eqb (countIn (layout i) (i .image)) 0))
     ∷ (everything i 6, live i .held)
     ∷ (everything i 7, malformed (said i))
     ∷ (everything i 8, checksumWrong (i .frame) (i .bits) (said i))
@@ -195,7 +183,7 @@ isArbitrate (state.Secured k) = false
 isArbitrate state.Killed = false
 
 abbrev pub answered : ℕ → Session → Result
-answered n session = record { number = n; session = session; reply = 0; stores = 0; value = 0; image = []; room = [] }
+answered n session = leaves n session [] []
 
 unfoldable pub admitOf : Session → ℕ → Result
 admitOf s n =

@@ -1,0 +1,91 @@
+-- P1 to P12 (RULES 6.2): one table under one statement, computed. Assumes nothing.
+use Prim.Native.Nat.{ℕ, _+_}
+use mathlib.Core.Path.{_≡_, refl}
+use mathlib.Core.Bool.{false}
+use mathlib.Core.List.{List, [], _∷_}
+use lib.ListN.{take}
+use Rattle.bits.specs.Words.{wordAt, withWord, Store}
+use Rattle.bits.specs.Bits.{fieldAt, bitsOf, wordsBits}
+use Rattle.bits.specs.Below.{below}
+use Rattle.crc.specs.Crc.{crcOf}
+use Rattle.ebv.specs.declared.Pointer.{Pointer}
+use Rattle.ebv.specs.declared.Pointer.the-variants as pointer
+use Rattle.ebv.specs.Ebv.{pointerAt}
+use Rattle.image.specs.Layout.{layoutOf, headerGood, blocksIn}
+use Rattle.image.specs.Content.{rulesHold, contentGood}
+use Rattle.image.specs.Worked.{worked}
+use Rattle.frames.specs.Frames.{heardOf, checksumRight}
+use Rattle.replies.specs.Pack.{filled, packed}
+use Rattle.replies.specs.Replies.{checked}
+use Rattle.rights.specs.Rights.{writeCode, lockedTo, lockCode}
+use Rattle.stores.specs.Stores.{powerStores}
+use Rattle.tag.specs.declared.Session.{Session}
+use Rattle.tag.specs.declared.State.the-variants as state
+use Rattle.tag.specs.Result.{Result}
+use Rattle.tag.specs.Power.{started, powerUpOf}
+use Rattle.tag.specs.Table.{input, liveOf, storesOf, frameOf}
+use Rattle.tag.specs.Port.{numberIn, writeOf}
+use Rattle.demands.specs.Calls.{frame, write, storesIn}
+use Rattle.demands.specs.Worked.{write3, lock10, lock11, secured, sent, locked}
+use Rattle.demands.specs.Ports.{holding, fourWords}
+use Rattle.demands.specs.Ports.{locked as blockLocked}
+
+-- a case: its number, what the definitions compute, what is expected
+pub record Case : Type 0 where
+  pub number : ℕ
+  pub computed : List ℕ
+  pub expected : List ℕ
+
+abbrev p : ℕ → List ℕ → List ℕ → Case
+p n computed expected = record { number = n; computed = computed; expected = expected }
+
+-- every case of the table holds
+abbrev pub Hold : List Case → Type 0
+Hold [] = Unit {0}
+Hold (c ∷ cs) = (c .computed ≡ c .expected) × Hold cs
+
+-- a pointer's value and bytes; stores as numbers, place and value of each; the bytes of every word outside WORK after a whole power-up
+abbrev pointed : Pointer → List ℕ
+pointed pointer.Malformed = []
+pointed (pointer.Whole v e) = v ∷ e ∷ []
+
+abbrev pub flat : List Store → List ℕ
+flat [] = []
+flat (s ∷ ss) = s .at ∷ s .value ∷ flat ss
+
+abbrev pub outside : List ℕ → List ℕ
+outside m = take 90 (powerUpOf m 257 .image)
+
+-- P7's Write with power for s stores, and P12's SPI write
+abbrev p7 : ℕ → Result
+p7 s = sent worked write3 66 s
+
+abbrev p12 : Result
+p12 = writeOf (holding state.Arbitrate false false) blockLocked 2 fourWords 8
+
+pub table : List Case
+table =
+    p 1 (crcOf [] ∷ []) (0x0000 ∷ [])
+    ∷ p 2 (crcOf (bitsOf 16 0x0000) ∷ []) (0xE2F0 ∷ [])
+    ∷ p 3 (crcOf (bitsOf 16 0xFFFF) ∷ []) (0xFFFF ∷ [])
+    ∷ p 4 (pointed (pointerAt (0x7F ∷ []) 8 0)) (127 ∷ 1 ∷ [])
+    ∷ p 5 (pointed (pointerAt (0x81 ∷ 0x6A ∷ []) 16 0)) (234 ∷ 2 ∷ [])
+    ∷ p 6 (pointed (pointerAt (0x80 ∷ 0x05 ∷ []) 16 0)) (5 ∷ 2 ∷ [])
+    ∷ p 7 (flat (storesIn (record { session = secured; image = worked }) (frame write3 66 0x1234 [] 5)))
+    (46 ∷ 31 ∷ 47 ∷ 0xABCD ∷ 45 ∷ 1 ∷ 31 ∷ 0xABCD ∷ 45 ∷ 0 ∷ [])
+    ∷ p 8 (outside (p7 2 .image)) (outside worked)
+    ∷ p 9 (outside (p7 3 .image)) (outside (p7 5 .image))
+    ∷ p 10 (wordAt (sent locked lock10 60 5 .image) 16 ∷ []) (0x023 ∷ [])
+    ∷ p 11 (sent locked lock11 60 5 .number ∷ fieldAt (sent locked lock11 60 5 .room) 1 8 ∷ []) (10 ∷ 0x04 ∷ [])
+    ∷ p 12 (p12 .stores ∷ numberIn (liveOf (p12 .session .power) .register) ∷ below (λ j. wordAt (p12 .image) (30 + j)) 4)
+    (8 ∷ 2 ∷ 6 ∷ 10 ∷ 0x3333 ∷ 0x4444 ∷ [])
+    ∷ []
+
+pub proved-cases : Hold table
+unfolding table frameOf writeOf powerUpOf started powerStores layoutOf headerGood blocksIn contentGood rulesHold worked wordAt withWord wordsBits bitsOf crcOf fieldAt pointerAt heardOf checksumRight filled packed checked writeCode lockedTo lockCode write3 lock10 lock11
+proved-cases = (refl, (refl, (refl, (refl, (refl, (refl, (refl, (refl, (refl, (refl, (refl, (refl, tt))))))))))))
+
+-- P8 is the old word and P9 the new one, not the same twice
+pub old-and-new : (wordAt (powerUpOf (p7 2 .image) 257 .image) 31 ≡ 10) × (wordAt (powerUpOf (p7 3 .image) 257 .image) 31 ≡ 0xABCD)
+unfolding frameOf powerUpOf started powerStores layoutOf headerGood blocksIn contentGood rulesHold worked wordAt withWord wordsBits bitsOf crcOf fieldAt pointerAt heardOf checksumRight filled packed checked writeCode write3
+old-and-new = (refl, refl)

@@ -1,0 +1,163 @@
+-- Nothing vacuous: the hypotheses of each demand are met on the worked image, computed (RULES 7.4). Assumes nothing.
+use Prim.Native.Nat.{ℕ, _+_, _≤_}
+use mathlib.Core.Path.{_≡_, refl}
+use mathlib.Core.Bool.{false}
+use mathlib.Core.List.{List, [], _∷_}
+use lib.Dec.{lit≤}
+use lib.ListN.{length, replicate}
+use Rattle.bits.specs.Words.{wordAt, withWord, Store, store}
+use Rattle.bits.specs.Bits.{fieldAt, bitsOf, wordsBits}
+use Rattle.bits.specs.Below.{below}
+use Rattle.crc.specs.Crc.{crcOf}
+use Rattle.ebv.specs.Ebv.{pointerAt}
+use Rattle.image.specs.Layout.{layoutOf, headerGood, blocksIn}
+use Rattle.image.specs.Content.{permalock, rulesHold, contentGood}
+use Rattle.image.specs.Check.{checkOf}
+use Rattle.image.specs.Worked.{worked, workedLayout}
+use Rattle.frames.specs.declared.Order.{Order}
+use Rattle.frames.specs.declared.Order.the-variants as order
+use Rattle.frames.specs.declared.Heard.the-variants as heard
+use Rattle.frames.specs.Frames.{span, heardOf, checksumRight}
+use Rattle.replies.specs.declared.Reply.{Reply}
+use Rattle.replies.specs.declared.Reply.the-variants as reply
+use Rattle.replies.specs.Pack.{filled, packed}
+use Rattle.replies.specs.Replies.{checked}
+use Rattle.rights.specs.declared.Code.the-variants as code
+use Rattle.rights.specs.Rights.{readCode, writeCode, lockedTo, lockCode, permaReadCode, permaCode}
+use Rattle.stores.specs.Stores.{powerStores}
+use Rattle.tag.specs.declared.Answer.the-variants as answer
+use Rattle.tag.specs.declared.State.the-variants as state
+use Rattle.tag.specs.declared.Outcome.{Outcome}
+use Rattle.tag.specs.Power.{started, powerUpOf}
+use Rattle.tag.specs.Table.{frameOf}
+use Rattle.tag.specs.Port.{writeOf}
+use Rattle.demands.specs.Calls.{Tag, frame, answerOf, Meets, Idle}
+use Rattle.demands.specs.Demands.{Storing, byRadio, byPort, told}
+use Rattle.demands.specs.Commands.{Air, Says, Enough, zeroKill, wordsTo}
+use Rattle.demands.specs.Worked.{reqRn, write3, readTwo, secured, usedUp}
+use Rattle.demands.specs.Ports.{holding, locked, fourWords}
+
+-- further frames: handle 1234h, cover number 5A5Ah. Req_RN with the handle
+unfoldable pub reqCover : List ℕ
+reqCover = 0xC1 ∷ 0x12 ∷ 0x34 ∷ 0x31 ∷ 0x62 ∷ []
+
+-- Kill, the halves 4B49h and 4C4Ch
+unfoldable pub kill1 : List ℕ
+kill1 = 0xC4 ∷ 0x11 ∷ 0x13 ∷ 0x02 ∷ 0x46 ∷ 0x8D ∷ 0x0D ∷ 0xE0 ∷ []
+
+unfoldable pub kill2 : List ℕ
+kill2 = 0xC4 ∷ 0x16 ∷ 0x16 ∷ 0x02 ∷ 0x46 ∷ 0x9D ∷ 0xC4 ∷ 0x40 ∷ []
+
+-- Access, the half 0000h
+unfoldable pub access : List ℕ
+access = 0xC6 ∷ 0x5A ∷ 0x5A ∷ 0x12 ∷ 0x34 ∷ 0x87 ∷ 0x97 ∷ []
+
+-- Lock: EPC pwd set
+unfoldable pub lock1 : List ℕ
+lock1 = 0xC5 ∷ 0x08 ∷ 0x02 ∷ 0x01 ∷ 0x23 ∷ 0x4A ∷ 0x9F ∷ 0x70 ∷ []
+
+-- BlockWrite and BlockErase of USER 2 and 3
+unfoldable pub block2 : List ℕ
+block2 = 0xC7 ∷ 0xC0 ∷ 0x80 ∷ 0x84 ∷ 0x44 ∷ 0x48 ∷ 0x88 ∷ 0x84 ∷ 0x8D ∷ 0x36 ∷ 0xDF ∷ 0x80 ∷ []
+
+unfoldable pub erase2 : List ℕ
+erase2 = 0xC8 ∷ 0xC0 ∷ 0x80 ∷ 0x84 ∷ 0x8D ∷ 0x00 ∷ 0xE1 ∷ 0xC0 ∷ []
+
+-- BlockPermalock: reads PERMA word 0; locks block 3
+unfoldable pub permaRead : List ℕ
+permaRead = 0xC9 ∷ 0x00 ∷ 0x60 ∷ 0x00 ∷ 0x22 ∷ 0x46 ∷ 0x90 ∷ 0x65 ∷ 0x80 ∷ []
+
+unfoldable pub perma3 : List ℕ
+perma3 = 0xC9 ∷ 0x00 ∷ 0xE0 ∷ 0x00 ∷ 0x22 ∷ 0x00 ∷ 0x02 ∷ 0x46 ∷ 0x8D ∷ 0xFB ∷ 0x00 ∷ []
+
+-- a frame to the worked image, with a room of 12 bytes and power for 50 stores
+abbrev air : List ℕ → ℕ → Air
+air f bits = record { image = worked; frame = f; bits = bits; fresh = 0x5678; room = replicate 12 0xAA; power = 50 }
+
+-- it says the order, and its room and power do for the reply and the words
+abbrev Comes : List ℕ → ℕ → ℕ → Order → Reply → List Store → Type 0
+Comes f bits n o rp ws = Says (air f bits) n o × Enough workedLayout (air f bits) rp ws
+
+abbrev tag : Tag
+tag = record { session = secured; image = worked }
+
+-- what a frame call may hand back for P7's Write
+abbrev outcome : Outcome
+outcome = record { answer = answer.Done; session = usedUp; reply = 33; stores = 5; value = 0 }
+
+abbrev p7 : Storing
+p7 = byRadio write3 66 0x1234 (replicate 12 0xAA)
+
+abbrev holder : Tag
+holder = record { session = holding state.Arbitrate false false; image = worked }
+
+pub record Met : Type 0 where
+  -- demand 1: an outcome that meets the promise
+  pub one : Meets tag (frame write3 66 0x1234 (replicate 12 0xAA) 5) outcome (answerOf tag (told p7 5) .image) (answerOf tag (told p7 5) .room)
+  -- all demands: a good image with nothing pending
+  pub idle : Idle workedLayout worked
+  -- demand 2: a frame for each command, and no code that applies
+  pub req-rn : Comes reqRn 40 0xBEEF order.ReqRn (reply.Number 0x5678) []
+  pub req-rn-cover : Comes reqCover 40 0x1234 order.ReqRn (reply.Number 0x5678) []
+  pub read : Comes readTwo 58 0x1234 (order.Read (span 3 2 2)) (reply.Words 30 2 0x1234) []
+  pub read-right : readCode workedLayout worked false (span 3 2 2) ≡ code.Nothing
+  pub write : Comes write3 66 0x1234 (order.Write (span 3 3 1) 0xF197) (reply.Success 0x1234) (store 31 0xABCD ∷ [])
+  pub write-right : writeCode workedLayout worked false (span 3 3 1) 0xABCD ≡ code.Nothing
+  pub kill-first : Comes kill1 59 0x1234 (order.Kill 0x1113) (reply.Number 0x1234) []
+  pub kill-password : zeroKill workedLayout worked ≡ false
+  pub kill-second : Comes kill2 59 0x1234 (order.Kill 0x1616) (reply.Success 0x1234) (store 17 1 ∷ [])
+  pub lock : Comes lock1 60 0x1234 (order.Lock 0x020 0x020) (reply.Success 0x1234) (store 16 0x020 ∷ [])
+  pub lock-right : lockCode workedLayout worked 0x020 0x020 ≡ code.Nothing
+  pub access-half : Comes access 56 0x1234 (order.Access 0x5A5A) (reply.Number 0x1234) []
+  pub block-write : Comes block2 90 0x1234 (order.BlockWrite (span 3 2 2) 26) (reply.Success 0x1234) (wordsTo 30 block2 26 2)
+  pub block-write-right : writeCode workedLayout worked false (span 3 2 2) 0x1111 ≡ code.Nothing
+  pub block-erase : Comes erase2 58 0x1234 (order.BlockErase (span 3 2 2)) (reply.Success 0x1234) (below (λ j. store (30 + j) 0) 2)
+  pub block-erase-right : writeCode workedLayout worked false (span 3 2 2) 0 ≡ code.Nothing
+  pub permalock-read : Comes permaRead 67 0x1234 (order.ReadPermalock 0 (span 3 0 1)) (reply.Words 44 1 0x1234) []
+  pub permalock-read-right : permaReadCode workedLayout (span 3 0 1) ≡ code.Nothing
+  pub permalocks : Comes perma3 83 0x1234 (order.Permalock 0 (span 3 0 1) 35) (reply.Success 0x1234) (store 44 0x1000 ∷ [])
+  pub permalocks-right : permaCode workedLayout worked (span 3 0 1) perma3 35 ≡ code.Nothing
+  pub nak : heardOf (0xC0 ∷ []) 8 ≡ heard.Nak
+  pub engine : (2 + 4 ≤ workedLayout .user .words) × (length fourWords ≡ 8)
+  -- demand 3: a Write of one word and an SPI write of four, done; the power-ups after their cuts, whole
+  pub radio-done : (answerOf tag (told p7 5) .number ≡ 0) × (answerOf tag (told p7 5) .stores ≡ 5)
+  pub radio-whole : (powerUpOf (answerOf tag (told p7 2) .image) 257 .number ≡ 0) × (powerUpOf (answerOf tag (told p7 3) .image) 257 .number ≡ 0)
+  pub port-done : (answerOf holder (told (byPort 2 fourWords) 14) .number ≡ 0) × (answerOf holder (told (byPort 2 fourWords) 14) .stores ≡ 14)
+  pub port-whole : powerUpOf (answerOf holder (told (byPort 2 fourWords) 9) .image) 257 .number ≡ 0
+  -- any run: an image with a permalocked block
+  pub locked-block : Idle workedLayout locked × (permalock workedLayout locked 0 ≡ 1)
+
+pub met : Met
+unfolding checkOf frameOf writeOf powerUpOf started powerStores layoutOf headerGood blocksIn contentGood rulesHold worked wordAt withWord wordsBits bitsOf crcOf fieldAt pointerAt heardOf checksumRight filled packed checked readCode writeCode lockedTo lockCode permaReadCode permaCode reqRn write3 readTwo reqCover kill1 kill2 access lock1 block2 erase2 permaRead perma3
+met =
+    record {
+      one = refl;
+      idle = record { sound = refl; nothing = refl };
+      req-rn = (record { heard = refl; right = refl }, (lit≤ tt, lit≤ tt));
+      req-rn-cover = (record { heard = refl; right = refl }, (lit≤ tt, lit≤ tt));
+      read = (record { heard = refl; right = refl }, (lit≤ tt, lit≤ tt));
+      read-right = refl;
+      write = (record { heard = refl; right = refl }, (lit≤ tt, lit≤ tt));
+      write-right = refl;
+      kill-first = (record { heard = refl; right = refl }, (lit≤ tt, lit≤ tt));
+      kill-password = refl;
+      kill-second = (record { heard = refl; right = refl }, (lit≤ tt, lit≤ tt));
+      lock = (record { heard = refl; right = refl }, (lit≤ tt, lit≤ tt));
+      lock-right = refl;
+      access-half = (record { heard = refl; right = refl }, (lit≤ tt, lit≤ tt));
+      block-write = (record { heard = refl; right = refl }, (lit≤ tt, lit≤ tt));
+      block-write-right = refl;
+      block-erase = (record { heard = refl; right = refl }, (lit≤ tt, lit≤ tt));
+      block-erase-right = refl;
+      permalock-read = (record { heard = refl; right = refl }, (lit≤ tt, lit≤ tt));
+      permalock-read-right = refl;
+      permalocks = (record { heard = refl; right = refl }, (lit≤ tt, lit≤ tt));
+      permalocks-right = refl;
+      nak = refl;
+      engine = (lit≤ tt, refl);
+      radio-done = (refl, refl);
+      radio-whole = (refl, refl);
+      port-done = (refl, refl);
+      port-whole = refl;
+      locked-block = (record { sound = refl; nothing = refl }, refl);
+    }
