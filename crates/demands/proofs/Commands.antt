@@ -256,49 +256,53 @@ module _ (m : List ℕ) (st : State) (r : Register) (idle : Idle (layoutOf m) m)
   count-good : (at n : ℕ) → 1 ≤ n → n ≤ 255 → at + n ≤ layoutOf m .user .words → badCount (layoutOf m) at n ≡ false
   count-good at n a b c = rw (ne-eqb n 0 (λ e. omega arith), le-ltb 255 n b, le-ltb (layoutOf m .user .words) (at + n) c)
 
-  engine-read : (at n : ℕ) (room : List ℕ) → isKilled st ≡ false → 1 ≤ n → n ≤ 255 → at + n ≤ layoutOf m .user .words → 2 * n ≤ length room
-      → readOf (on st true r) m at n room ≡ transferred 0 (on st true r) (16 * n) 0 m (packed (wordsBits m (layoutOf m .user .at + at) n) room)
+  -- a read past its refusals, of a tag that is killed or is not
+  engine-read : (k : Bool) (at n : ℕ) (room : List ℕ) → isKilled st ≡ k → 1 ≤ n → n ≤ 255 → at + n ≤ layoutOf m .user .words → 2 * n ≤ length room
+      → readOf (on st true r) m at n room ≡ transferred 0 (on st true (cond k (withKilled r) r)) (16 * n) 0 m (packed (readBits (layoutOf m) m k at n) room)
   unfolding readOf holder
-  engine-read at n room k a b c d =
+  engine-read k at n room e a b c d =
       let row : Rows = (transferred 4 (on st true r) 0 0 m room, ltb (length room) (2 * n)) ∷ [] in
       none-first (refusals holder m room (badCount (layoutOf m) at n) ++ row) _
       (past room (badCount (layoutOf m) at n) row (count-good at n a b c) (le-ltb (length room) (2 * n) d, tt))
-      ∙ ap (λ (t : Bool). transferred 0 (on st true (cond t (withKilled r) r)) (16 * n) 0 m (packed (readBits (layoutOf m) m t at n) room)) k
+      ∙ ap (λ (t : Bool). transferred 0 (on st true (cond t (withKilled r) r)) (16 * n) 0 m (packed (readBits (layoutOf m) m t at n) room)) e
 
-  -- the stores of the n words of d
-  stores-of : ℕ → List ℕ → ℕ → List Store
-  stores-of at d n = changeStores (layoutOf m .work .at) (writtenWords (layoutOf m) m at d n)
+  -- a write past its refusals
+  module _ (at : ℕ) (d : List ℕ) (n s : ℕ) (size : length d ≡ 2 * n) (a : 1 ≤ n) (b : n ≤ 255) (c : at + n ≤ layoutOf m .user .words) (few : n ≤ pairsIn (layoutOf m)) where
+    written : Bool → List Store → Result
+    written k ws =
+        let ss = changeStores (layoutOf m .work .at) ws in
+        transferred 0 (on st true (cond k (withKilled r) (withUnwritten (someUnwritten (layoutOf m) m at n) r))) 0 (length ss) (after m ss) []
 
-  written : ℕ → List ℕ → ℕ → Result
-  written at d n =
-      transferred 0 (on st true (withUnwritten (someUnwritten (layoutOf m) m at n) r)) 0 (length (stores-of at d n)) (after m (stores-of at d n)) []
-
-  engine-write : (at : ℕ) (d : List ℕ) (n s : ℕ) → isKilled st ≡ false → length d ≡ 2 * n → 1 ≤ n → n ≤ 255 → at + n ≤ layoutOf m .user .words → n ≤ pairsIn (layoutOf m)
-      → length (stores-of at d n) ≤ s → writeOf (on st true r) m at d s ≡ written at d n
-  unfolding writeOf holder stores-of written
-  engine-write at d n s k size a b c few l =
-      let y = layoutOf m in
-      let half : length d / 2 ≡ n = omega (arith, size) in
-      let even : length d % 2 ≡ 0 = omega (arith, size) in
-      let words : portWords y m (isKilled st) at d ≡ writtenWords y m at d n = ap (λ (t : Bool). portWords y m t at d) k ∙ ap (writtenWords y m at d) half in
-      let stores = changeStores (y .work .at) (portWords y m (isKilled st) at d) in
-      let row : Rows = (transferred 11 offSession 0 s (after m (take s stores)) [], ltb s (length stores)) ∷ [] in
-      let bad : badData y at d ≡ false = rw (eq-eqb (length d % 2) 0 even, half, count-good at n a b c, le-ltb (pairsIn y) n few) in
-      none-first (refusals holder m [] (badData y at d) ++ row) _
-      (past [] (badData y at d) row bad (le-ltb s (length stores) (subst (λ (ws : List Store). length (changeStores (y .work .at) ws) ≤ s) (sym words) l), tt))
-      ∙ ap₂ (λ (t : Bool) (ws : List Store). transferred 0 (on st true (cond t (withKilled r) (withUnwritten (someUnwritten y m at (length d / 2)) r))) 0 (length (changeStores (y .work .at) ws)) (after m (changeStores (y .work .at) ws)) []) k words
-      ∙ ap (λ (x : ℕ). transferred 0 (on st true (withUnwritten (someUnwritten y m at x) r)) 0 (length (stores-of at d n)) (after m (stores-of at d n)) []) half
+    engine-write : (k : Bool) (ws : List Store) → isKilled st ≡ k → portWords (layoutOf m) m k at d ≡ ws → length (changeStores (layoutOf m .work .at) ws) ≤ s
+        → writeOf (on st true r) m at d s ≡ written k ws
+    unfolding writeOf holder written
+    engine-write k ws e f l =
+        let y = layoutOf m in
+        let half : length d / 2 ≡ n = omega (arith, size) in
+        let even : length d % 2 ≡ 0 = omega (arith, size) in
+        let words : portWords y m (isKilled st) at d ≡ ws = ap (λ (t : Bool). portWords y m t at d) e ∙ f in
+        let stores = changeStores (y .work .at) (portWords y m (isKilled st) at d) in
+        let row : Rows = (transferred 11 offSession 0 s (after m (take s stores)) [], ltb s (length stores)) ∷ [] in
+        let bad : badData y at d ≡ false = rw (eq-eqb (length d % 2) 0 even, half, count-good at n a b c, le-ltb (pairsIn y) n few) in
+        none-first (refusals holder m [] (badData y at d) ++ row) _
+        (past [] (badData y at d) row bad (le-ltb s (length stores) (subst (λ (x : List Store). length (changeStores (y .work .at) x) ≤ s) (sym words) l), tt))
+        ∙ ap₂ (λ (t : Bool) (x : List Store). transferred 0 (on st true (cond t (withKilled r) (withUnwritten (someUnwritten y m at (length d / 2)) r))) 0 (length (changeStores (y .work .at) x)) (after m (changeStores (y .work .at) x)) []) e words
+        ∙ ap (λ (x : ℕ). transferred 0 (on st true (cond k (withKilled r) (withUnwritten (someUnwritten y m at x) r))) 0 (length (changeStores (y .work .at) ws)) (after m (changeStores (y .work .at) ws)) []) half
 
   engine : Engine (layoutOf m) m st r
-  unfolding admitOf askOf releaseOf registerOf stores-of written
+  unfolding admitOf askOf releaseOf registerOf written
   engine =
       record {
         admit = λ n. refl;
         ask = λ e. rw e;
         release = refl;
         register = refl;
-        read = engine-read;
-        write = engine-write;
+        read = engine-read false;
+        write = λ at d n s k size a b c few l.
+            engine-write at d n s size a b c few false (writtenWords (layoutOf m) m at d n) k
+            (let half : length d / 2 ≡ n = omega (arith, size) in ap (writtenWords (layoutOf m) m at d) half) l;
+        read-killed = engine-read true;
+        write-killed = λ at d n s k size a b c few. engine-write at d n s size a b c few true [] k refl (omega arith);
       }
 
 pub demand-2 : Demand2

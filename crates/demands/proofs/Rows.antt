@@ -38,14 +38,14 @@ use Rattle.demands.proofs.Plans.{Plan, no-plan, order-plan, port-plan}
 abbrev pub Rows : Type 0
 Rows = List (Result × Bool)
 
--- no row of the list holds; each row leaves what P says
+-- no row of the list holds; each row that holds leaves what P says
 abbrev pub None : Rows → Type 0
 None [] = Unit {0}
 None (r ∷ rs) = (r .1 ≡ false) × None rs
 
 abbrev pub Each : (Result → Type 0) → Rows → Type 0
 Each P [] = Unit {0}
-Each P (r ∷ rs) = P (r .0) × Each P rs
+Each P (r ∷ rs) = (r .1 ≡ true → P (r .0)) × Each P rs
 
 pub none-first : (rs : Rows) (last : Result) → None rs → first rs last ≡ last
 none-first [] last h = refl
@@ -56,18 +56,18 @@ first-or P [] last h = inr tt
 first-or P (r ∷ rs) last h = go (r .1) refl (first-or P rs last (h .1))
   where
     go : (b : Bool) → r .1 ≡ b → P (first rs last) ⊎ None rs → P (cond (r .1) (r .0) (first rs last)) ⊎ None (r ∷ rs)
-    go true e f = inl (subst (λ (b : Bool). P (cond b (r .0) (first rs last))) (sym e) (h .0))
+    go true e f = inl (subst (λ (b : Bool). P (cond b (r .0) (first rs last))) (sym e) (h .0 e))
     go false e (inl p) = inl (subst (λ (b : Bool). P (cond b (r .0) (first rs last))) (sym e) p)
     go false e (inr n) = inr (e, n)
 
 -- every row, and what is given where none holds
 pub first-each : (P : Result → Type 0) (rs : Rows) (last : Result) → Each P rs → P last → P (first rs last)
 first-each P [] last h p = p
-first-each P (r ∷ rs) last h p = go (r .1) (first-each P rs last (h .1) p)
+first-each P (r ∷ rs) last h p = go (r .1) refl (first-each P rs last (h .1) p)
   where
-    go : (b : Bool) → P (first rs last) → P (cond b (r .0) (first rs last))
-    go true q = h .0
-    go false q = q
+    go : (b : Bool) → r .1 ≡ b → P (first rs last) → P (cond b (r .0) (first rs last))
+    go true e q = h .0 e
+    go false e q = q
 
 -- refused, and nothing stored
 abbrev pub Refused : List ℕ → Result → Type 0
@@ -134,8 +134,7 @@ module _ (v : Session) (m f : List ℕ) (bits fresh : ℕ) (room : List ℕ) (g 
 
   front-refused : (s : ℕ) → Each (Refused m) (front s)
   unfolding with-power front
-  front-refused s =
-      ((refl, lit< tt), ((refl, lit< tt), ((refl, lit< tt), ((refl, lit< tt), ((refl, lit< tt), ((refl, lit< tt), ((refl, lit< tt), ((refl, lit< tt), ((refl, lit< tt), ((refl, lit< tt), ((refl, lit< tt), tt)))))))))))
+  front-refused s = (λ e. (refl, lit< tt), (λ e. (refl, lit< tt), (λ e. (refl, lit< tt), (λ e. (refl, lit< tt), (λ e. (refl, lit< tt), (λ e. (refl, lit< tt), (λ e. (refl, lit< tt), (λ e. (refl, lit< tt), (λ e. (refl, lit< tt), (λ e. (refl, lit< tt), (λ e. (refl, lit< tt), tt)))))))))))
 
   -- the power matters to none of these
   module _ (a b : ℕ) where
@@ -277,7 +276,7 @@ module _ (v : Session) (m : List ℕ) (at : ℕ) (d : List ℕ) (g : Good (layou
 
   before-refused : Each (Refused m) before
   unfolding before
-  before-refused = ((refl, lit< tt), ((refl, lit< tt), ((refl, lit< tt), ((refl, lit< tt), ((refl, lit< tt), ((refl, lit< tt), tt))))))
+  before-refused = (λ e. (refl, lit< tt), (λ e. (refl, lit< tt), (λ e. (refl, lit< tt), (λ e. (refl, lit< tt), (λ e. (refl, lit< tt), (λ e. (refl, lit< tt), tt))))))
 
   port-planned : None before → Plan (layoutOf m) m port-words
   unfolding before y port-words

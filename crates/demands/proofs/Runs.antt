@@ -259,7 +259,7 @@ module _ (y : Layout) (m : List ℕ) (t : Steady y m) (v : Session) where
   unfolding readOf
   read-same at count room =
       first-each (λ (r : Result). r .image ≡ m) (refusals v m room (badCount (layoutOf m) at count) ++ ((transferred 4 v 0 0 m room, ltb (length room) (2 * count)) ∷ [])) _
-      (refl, (refl, (refl, (refl, (refl, (refl, (refl, tt))))))) refl
+      (λ e. refl, (λ e. refl, (λ e. refl, (λ e. refl, (λ e. refl, (λ e. refl, (λ e. refl, tt))))))) refl
 
   step : (c : Call) → Step y m (imageAfter (record { session = v; image = m }) c)
   step (powerUp s) =

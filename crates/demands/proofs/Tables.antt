@@ -2,7 +2,7 @@
 use Prim.Native.Nat.{ℕ, zero, suc, _+_, _*_, _/_, _≤_, _<_}
 use mathlib.Core.Path.{_≡_, refl, sym, ap, ap₂, _∙_}
 use mathlib.Core.Logic.{_⊎_, inl, inr, ⊎-elim}
-use mathlib.Core.Bool.{Bool, true, false, cond, not, _||_}
+use mathlib.Core.Bool.{Bool, true, false, cond, not, _&&_, _||_}
 use mathlib.Core.List.{List, [], _∷_, _++_}
 use native.Mathlib.Omega.{arith}
 use lib.Dec.{eqb, leb, ltb, lit≤}
@@ -13,12 +13,16 @@ use Rattle.bits.specs.Bits.{wordsBits}
 use Rattle.bits.specs.First.{first}
 use Rattle.bits.proofs.Below.{and-right, or-cases}
 use Rattle.image.specs.Layout.{layoutOf, within}
-use Rattle.image.specs.Check.{short, headerWrong, contentBroken}
+use Rattle.image.specs.declared.Fit.{Fit}
+use Rattle.image.specs.declared.Fit.the-variants as fit
+use Rattle.image.specs.Check.{Checked, refused, good, meaning, short, headerWrong, contentBroken}
 use Rattle.replies.specs.declared.Reply.{Reply}
 use Rattle.replies.specs.declared.Reply.the-variants as reply
 use Rattle.replies.specs.Replies.{replyBits, replyLength}
 use Rattle.replies.specs.Pack.{packed}
 use Rattle.replies.proofs.Laws.{packed-none}
+use Rattle.rights.specs.declared.Code.{Code}
+use Rattle.rights.specs.declared.Code.the-variants as code
 use Rattle.stores.specs.Stores.{changeStores, powerStores}
 use Rattle.tag.specs.declared.State.{State}
 use Rattle.tag.specs.declared.State.the-variants as state
@@ -28,7 +32,7 @@ use Rattle.tag.specs.Result.{Result, leaves}
 use Rattle.tag.specs.One.{one-outcome}
 use Rattle.tag.specs.Commands.{isKilled, used}
 use Rattle.tag.specs.Power.{poweredTo, firstIn, started, powerUpOf}
-use Rattle.tag.specs.Table.{Input, input, said, live, stateOf, liveOf, isOff, isArbitrate, newState, replyOf, storesOf, movedTo, everything, dropped, cut, replied, rows, frameOf, answered, admitOf}
+use Rattle.tag.specs.Table.{Input, input, said, stateOf, liveOf, isOff, isArbitrate, isError, errorCode, doneReply, newState, replyOr, replyOf, fits, storesOf, movedTo, dropped, cut, replied, rows, frameOf, answered, admitOf}
 use Rattle.tag.specs.Port.{isLinked, heldTo, told, askOf, releaseOf, registerOf, badCount, badData, readBits, portWords, someUnwritten, registerTo, withKilled, withUnwritten, transferred, refusals, readOf, writeOf}
 use Rattle.demands.specs.Calls.{Call, powerUp, admit, frame, ask, release, register, read, write, Tag, answerOf, sessionIn, imageIn, roomIn, powerIn, storesIn}
 use Rattle.demands.specs.Demands.{refuses, Tabled, Demand1}
@@ -95,13 +99,18 @@ module _ (v : Session) (m f : List ℕ) (bits fresh : ℕ) (room : List ℕ) (s 
   handed : Input
   handed = input v m f bits fresh room s
 
-  error-row : Tabled tag call (replied handed 10 (used (stateOf handed)) [])
+  -- a code's reply is an error reply
+  error-length : (e : Code) (b : Bool) (h : ℕ) (r : Reply) → isError e && b ≡ true → replyLength (replyOr e h r) ≡ 41
+  error-length code.Nothing b h r q = absurd (never q)
+  error-length (code.Error c) b h r q = refl
+
+  error-row : isError (errorCode handed (said handed)) && fits (replyOf handed) room ≡ true → Tabled tag call (replied handed 10 (used (stateOf handed)) [])
   unfolding tag call handed
-  error-row =
+  error-row e =
       record {
         listed = lit≤ tt;
         refused = λ q. absurd (never q);
-        error = λ q. (refl, refl, refl);
+        error = λ q. (refl, refl, refl, error-length (errorCode handed (said handed)) (fits (replyOf handed) room) _ (doneReply handed (said handed)) e);
         lost = λ q. absurd (omega arith);
         dropped = λ q. absurd (omega arith);
         silent = silence m room (replyOf handed);
@@ -122,22 +131,22 @@ module _ (v : Session) (m f : List ℕ) (bits fresh : ℕ) (room : List ℕ) (s 
   frame-rows : Each (Tabled tag call) (rows handed)
   unfolding tag call handed
   frame-rows = (
-    refusal tag call 1 refl,
+    λ e. refusal tag call 1 refl,
     (
-      refusal tag call 2 refl,
+      λ e. refusal tag call 2 refl,
       (
-        refusal tag call 3 refl,
+        λ e. refusal tag call 3 refl,
         (
-          refusal tag call 5 refl,
+          λ e. refusal tag call 5 refl,
           (
-            refusal tag call 6 refl,
+            λ e. refusal tag call 6 refl,
             (
-              refusal tag call 7 refl,
+              λ e. refusal tag call 7 refl,
               (
-                refusal tag call 8 refl,
+                λ e. refusal tag call 8 refl,
                 (
-                  refusal tag call 9 refl,
-                  (dropped-row, (error-row, (refusal tag call 4 refl, (lost-answer tag call, tt)))),
+                  λ e. refusal tag call 9 refl,
+                  (λ e. dropped-row, (error-row, (λ e. refusal tag call 4 refl, (λ e. lost-answer tag call, tt)))),
                 ),
               ),
             ),
@@ -163,7 +172,7 @@ module _ (v : Session) (m : List ℕ) where
   read-tabled at count room =
       let c = read at count room in
       first-each (Tabled tag-of c) (refusals v m room (badCount (layoutOf m) at count) ++ ((transferred 4 v 0 0 m room, ltb (length room) (2 * count)) ∷ [])) _
-      (refusal tag-of c 1 refl, (refusal tag-of c 2 refl, (refusal tag-of c 3 refl, (refusal tag-of c 5 refl, (refusal tag-of c 6 refl, (refusal tag-of c 13 refl, (refusal tag-of c 4 refl, tt)))))))
+      (λ e. refusal tag-of c 1 refl, (λ e. refusal tag-of c 2 refl, (λ e. refusal tag-of c 3 refl, (λ e. refusal tag-of c 5 refl, (λ e. refusal tag-of c 6 refl, (λ e. refusal tag-of c 13 refl, (λ e. refusal tag-of c 4 refl, tt)))))))
       (zero-answer tag-of c _ refl (λ q. no-words (isKilled (liveOf (v .power) .state)) count (omega (arith, q))))
     where
       no-words : (k : Bool) (n : ℕ) → n ≡ 0 → packed (readBits (layoutOf m) m k at n) room ≡ room
@@ -184,7 +193,7 @@ module _ (v : Session) (m : List ℕ) where
       first-each (Tabled tag-of c)
       (refusals v m [] (badData y at d) ++ ((transferred 11 offSession 0 s (after m (take s stores)) [], ltb s (length stores)) ∷ []))
       (transferred 0 (registerTo l (cond killed (withKilled (l .register)) (withUnwritten (someUnwritten y m at (length d / 2)) (l .register)))) 0 (length stores) (after m stores) [])
-      (refusal tag-of c 1 refl, (refusal tag-of c 2 refl, (refusal tag-of c 3 refl, (refusal tag-of c 5 refl, (refusal tag-of c 6 refl, (refusal tag-of c 13 refl, (lost-answer tag-of c, tt)))))))
+      (λ e. refusal tag-of c 1 refl, (λ e. refusal tag-of c 2 refl, (λ e. refusal tag-of c 3 refl, (λ e. refusal tag-of c 5 refl, (λ e. refusal tag-of c 6 refl, (λ e. refusal tag-of c 13 refl, (λ e. lost-answer tag-of c, tt)))))))
       (zero-answer tag-of c _ refl (λ q. refl))
 
 -- calls without an image, and power-up
@@ -197,7 +206,7 @@ module _ (t : Tag) where
       let c = admit n in
       first-each (Tabled t c) ((answered 5 s, isOff (s .power)) ∷ (answered 6 s, l .held) ∷ (answered 9 s, not (isArbitrate (l .state))) ∷ [])
       (answered 0 (movedTo l (state.Acknowledged n)))
-      (refusal t c 5 refl, (refusal t c 6 refl, (refusal t c 9 refl, tt))) (zero-answer t c _ refl (λ q. refl))
+      (λ e. refusal t c 5 refl, (λ e. refusal t c 6 refl, (λ e. refusal t c 9 refl, tt))) (zero-answer t c _ refl (λ q. refl))
 
   ask-tabled : Tabled t ask (askOf (t .session))
   unfolding askOf
@@ -205,7 +214,7 @@ module _ (t : Tag) where
       let s = t .session in
       let l = liveOf (s .power) in
       first-each (Tabled t ask) ((answered 5 s, isOff (s .power)) ∷ (answered 6 s, l .held || isLinked (l .state)) ∷ []) (answered 0 (heldTo l true))
-      (refusal t ask 5 refl, (refusal t ask 6 refl, tt)) (zero-answer t ask _ refl (λ q. refl))
+      (λ e. refusal t ask 5 refl, (λ e. refusal t ask 6 refl, tt)) (zero-answer t ask _ refl (λ q. refl))
 
   release-tabled : Tabled t release (releaseOf (t .session))
   unfolding releaseOf
@@ -213,7 +222,7 @@ module _ (t : Tag) where
       let s = t .session in
       let l = liveOf (s .power) in
       first-each (Tabled t release) ((answered 5 s, isOff (s .power)) ∷ (answered 6 s, not (l .held)) ∷ []) (answered 0 (heldTo l false))
-      (refusal t release 5 refl, (refusal t release 6 refl, tt)) (zero-answer t release _ refl (λ q. refl))
+      (λ e. refusal t release 5 refl, (λ e. refusal t release 6 refl, tt)) (zero-answer t release _ refl (λ q. refl))
 
   register-tabled : Tabled t register (registerOf (t .session))
   unfolding registerOf
@@ -221,7 +230,7 @@ module _ (t : Tag) where
       let s = t .session in
       let l = liveOf (s .power) in
       first-each (Tabled t register) ((answered 5 s, isOff (s .power)) ∷ (answered 6 s, not (l .held)) ∷ []) (told l)
-      (refusal t register 5 refl, (refusal t register 6 refl, tt)) (zero-answer t register _ refl (λ q. refl))
+      (λ e. refusal t register 5 refl, (λ e. refusal t register 6 refl, tt)) (zero-answer t register _ refl (λ q. refl))
 
   power-tabled : (s : ℕ) → Tabled t (powerUp s) (powerUpOf (t .image) s)
   unfolding powerUpOf started
@@ -233,7 +242,7 @@ module _ (t : Tag) where
       ((poweredTo 1 offSession 0 m, short m) ∷ (poweredTo 2 offSession 0 m, headerWrong m) ∷ (poweredTo 3 offSession 0 m, contentBroken m)
       ∷ (poweredTo 11 offSession s (after m (take s stores)), ltb s (length stores)) ∷ [])
       (poweredTo 0 (newSession (firstIn (layoutOf m) (after m stores))) (length stores) (after m stores))
-      (refusal t c 1 refl, (refusal t c 2 refl, (refusal t c 3 refl, (lost-answer t c, tt)))) (zero-answer t c _ refl (λ q. refl))
+      (λ e. refusal t c 1 refl, (λ e. refusal t c 2 refl, (λ e. refusal t c 3 refl, (λ e. lost-answer t c, tt)))) (zero-answer t c _ refl (λ q. refl))
 
 tabled : (t : Tag) (c : Call) → Tabled t c (answerOf t c)
 unfolding tag call handed tag-of
@@ -246,5 +255,22 @@ tabled t register = register-tabled t
 tabled t (read at count room) = read-tabled (t .session) (t .image) at count room
 tabled t (write at d s) = write-tabled (t .session) (t .image) at d s
 
+-- what the check answered, from its meaning
+fitOf : Checked → Fit
+fitOf (refused n) = cond (eqb n 1) fit.Short (cond (eqb n 2) fit.Header fit.Content)
+fitOf (good y) = fit.Good y
+
+fit-again : (f : Fit) → fitOf (meaning f) ≡ f
+unfolding fitOf
+fit-again fit.Short = refl
+fit-again fit.Header = refl
+fit-again fit.Content = refl
+fit-again (fit.Good y) = refl
+
 pub demand-1 : Demand1
-demand-1 = record { one = λ t c p q m n a b e f. one-outcome p q m n a b (answerOf t c) e f; table = tabled }
+demand-1 =
+    record {
+      check = λ m p q e f. sym (fit-again p) ∙ ap fitOf (e ∙ sym f) ∙ fit-again q;
+      one = λ t c p q m n a b e f. one-outcome p q m n a b (answerOf t c) e f;
+      table = tabled;
+    }

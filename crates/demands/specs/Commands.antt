@@ -6,7 +6,7 @@ use mathlib.Core.Bool.{Bool, true, false, cond, _&&_}
 use mathlib.Core.List.{List, [], _∷_}
 use lib.Bits.{bitXor, bitOr}
 use lib.Dec.{eqb}
-use lib.ListN.{length}
+use lib.ListN.{length, replicate}
 use Rattle.bits.specs.Words.{wordAt, Store, store, after}
 use Rattle.bits.specs.Bits.{fieldAt, wordsBits}
 use Rattle.bits.specs.Below.{below}
@@ -33,10 +33,10 @@ use Rattle.tag.specs.declared.Register.{Register}
 use Rattle.tag.specs.declared.State.{State}
 use Rattle.tag.specs.declared.State.the-variants as state
 use Rattle.tag.specs.Session.{on, clear}
-use Rattle.tag.specs.Result.{Result}
+use Rattle.tag.specs.Result.{Result, leaves}
 use Rattle.tag.specs.Commands.{accessWord, killWord, isKilled}
 use Rattle.tag.specs.Table.{input, frameOf, answered, admitOf}
-use Rattle.tag.specs.Port.{isLinked, numberIn, writtenWords, someUnwritten, transferred, askOf, releaseOf, registerOf, readOf, writeOf, withUnwritten}
+use Rattle.tag.specs.Port.{isLinked, numberIn, writtenWords, someUnwritten, transferred, askOf, releaseOf, registerOf, readOf, writeOf, withUnwritten, withKilled}
 use Rattle.demands.specs.Calls.{Idle}
 
 -- what a frame call is handed beside the session: image, frame, bit count, fresh word, room and power
@@ -146,9 +146,9 @@ pub record Radio (y : Layout) (a : Air) (r : Register) : Type 0 where
   -- NAK: Arbitrate, and no reply
   pub nak : (st : State) → isKilled st ≡ false → heardOf (a .frame) (a .bits) ≡ heard.Nak → answer a st r ≡ done y a r state.Arbitrate reply.Silence []
 
--- the port, with the image m
+-- the gate's admission, and the port with the image m
 pub record Engine (y : Layout) (m : List ℕ) (st : State) (r : Register) : Type 0 where
-  -- the gate admits the tag where the port is free
+  -- Arbitrate, with the port free
   pub admit : (n : ℕ) → admitOf (on state.Arbitrate false r) n ≡ answered 0 (on (state.Acknowledged n) false r)
   pub ask : isLinked st ≡ false → askOf (on st false r) ≡ answered 0 (on st true r)
   pub release : releaseOf (on st true r) ≡ answered 0 (on st false r)
@@ -162,6 +162,12 @@ pub record Engine (y : Layout) (m : List ℕ) (st : State) (r : Register) : Type
   pub write : (at : ℕ) (d : List ℕ) (n s : ℕ) → isKilled st ≡ false → length d ≡ 2 * n → 1 ≤ n → n ≤ 255 → at + n ≤ y .user .words → n ≤ pairsIn y
       → let stores = changeStores (y .work .at) (writtenWords y m at d n) in length stores ≤ s
       → writeOf (on st true r) m at d s ≡ transferred 0 (on st true (withUnwritten (someUnwritten y m at n) r)) 0 (length stores) (after m stores) []
+
+  -- when Killed: zeros, and nothing stored; bit 0 is set
+  pub read-killed : (at n : ℕ) (room : List ℕ) → isKilled st ≡ true → 1 ≤ n → n ≤ 255 → at + n ≤ y .user .words → 2 * n ≤ length room
+      → readOf (on st true r) m at n room ≡ transferred 0 (on st true (withKilled r)) (16 * n) 0 m (packed (replicate (16 * n) 0) room)
+  pub write-killed : (at : ℕ) (d : List ℕ) (n s : ℕ) → isKilled st ≡ true → length d ≡ 2 * n → 1 ≤ n → n ≤ 255 → at + n ≤ y .user .words → n ≤ pairsIn y
+      → writeOf (on st true r) m at d s ≡ leaves 0 (on st true (withKilled r)) m []
 
 abbrev pub Demand2 : Type 0
 Demand2 = (y : Layout) (r : Register)

@@ -9,7 +9,8 @@ use Rattle.bits.specs.Words.{wordAt, Store, after}
 use Rattle.image.specs.declared.Layout.{Layout}
 use Rattle.image.specs.Layout.{layoutOf, end, blocksIn, within}
 use Rattle.image.specs.Content.{lockWord, permalock}
-use Rattle.image.specs.Check.{checkOf, good}
+use Rattle.image.specs.declared.Fit.{Fit}
+use Rattle.image.specs.Check.{checkOf, meaning, good}
 use Rattle.rights.specs.Rights.{permaBit}
 use Rattle.tag.specs.declared.State.the-variants as state
 use Rattle.tag.specs.declared.Session.{Session}
@@ -27,19 +28,20 @@ use Rattle.demands.specs.Calls.{Call, frame, write, Tag, answerOf, Meets
 abbrev pub refuses : ℕ → Bool
 refuses n = within 1 9 n || eqb n 13
 
--- number by number: 1 to 9 and 13 leave everything; 10 leaves the image and uses up the cover number; 11 leaves the first s stores, Off and no reply;
+-- number by number: 1 to 9 and 13 leave everything; 10 gives an error reply, of 41 bits, leaves the image and uses up the cover number; 11 leaves the first s stores, Off and no reply;
 -- 12 leaves the image, Arbitrate and no reply; and an answer without a reply changes no byte of the room
 pub record Tabled (t : Tag) (c : Call) (r : Result) : Type 0 where
   pub listed : r .number ≤ 13
   pub refused : refuses (r .number) ≡ true → r ≡ leaves (r .number) (sessionIn t c) (imageIn t c) (roomIn c)
   pub error : r .number ≡ 10
-      → (r .image ≡ imageIn t c) × (r .stores ≡ 0) × (let l = liveOf (t .session .power) in r .session ≡ movedTo l (used (l .state)))
+      → (r .image ≡ imageIn t c) × (r .stores ≡ 0) × (let l = liveOf (t .session .power) in r .session ≡ movedTo l (used (l .state))) × (r .reply ≡ 41)
   pub lost : r .number ≡ 11
       → r ≡ record { number = 11; session = offSession; reply = 0; stores = powerIn c; value = 0; image = after (imageIn t c) (take (powerIn c) (storesIn t c)); room = roomIn c }
   pub dropped : r .number ≡ 12 → r ≡ leaves 12 (movedTo (liveOf (t .session .power)) state.Arbitrate) (imageIn t c) (roomIn c)
   pub silent : r .reply ≡ 0 → r .room ≡ roomIn c
 
 pub record Demand1 : Type 0 where
+  pub check : (m : List ℕ) (p q : Fit) → meaning p ≡ checkOf m → meaning q ≡ checkOf m → p ≡ q
   pub one : (t : Tag) (c : Call) (p q : Outcome) (m n a b : List ℕ) → Meets t c p m a → Meets t c q n b → (p ≡ q) × (m ≡ n) × (a ≡ b)
   pub table : (t : Tag) (c : Call) → Tabled t c (answerOf t c)
 
