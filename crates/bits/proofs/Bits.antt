@@ -1,7 +1,7 @@
 -- Laws of bits, of the numbers that they denote, and of the bits of numbers. Assumes nothing.
 use Prim.Native.Nat.{ℕ, zero, suc, _+_, _-_, _*_, _/_, _%_, _^_, _<_, _≤_}
 use mathlib.Core.Path.{_≡_, refl, sym, ap, ap₂, _∙_}
-use mathlib.Core.List.{List, [], _∷_, _++_}
+use mathlib.Core.List.{List, _∷_, _++_}
 use native.Mathlib.Nat.{suc-add, pow-suc, add-mul-div-right, add-zero, add-suc, mod-lt, mod-one}
 use native.Mathlib.Numerals.{add-one}
 use native.Mathlib.Omega.{arith}
@@ -9,7 +9,7 @@ use native.Mathlib.Decide.{decLt}
 use lib.ListN.{length, getD, drop}
 use lib.Seq.{getD-drop}
 use lib.Pow.{shr-shr, pow-pos, mod-pow-add}
-use Rattle.bits.specs.Bits.{bitAt, bitsFrom, numberOn, fieldAt, bitsOf, wordsBits}
+use Rattle.bits.specs.Bits.{bitAt, bitsFrom, numberOn, bitsOf, wordsBits}
 use Rattle.bits.specs.Words.{wordAt}
 
 pub bit-lt : (m : List ℕ) (i : ℕ) → bitAt m i < 2

@@ -2,7 +2,6 @@
 use Prim.Native.Nat.{ℕ, _+_, _*_, _≤_, _<_, _^_}
 use mathlib.Core.List.{List, [], _∷_}
 use lib.Bits.{bitOr}
-use lib.ListN.{length}
 use Rattle.bits.specs.Words.{wordAt, Store, store}
 use Rattle.bits.specs.Bits.{fieldAt}
 use Rattle.bits.specs.Below.{below}

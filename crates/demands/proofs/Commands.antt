@@ -1,27 +1,22 @@
 -- Demand 2: where no refusal applies, the table gives its last row; command by command. Assumes nothing.
-use Prim.Native.Nat.{ℕ, zero, suc, _+_, _-_, _*_, _/_, _%_, _≤_, _<_}
+use Prim.Native.Nat.{ℕ, _+_, _*_, _/_, _%_, _≤_}
 use mathlib.Core.Path.{_≡_, refl, sym, ap, ap₂, _∙_, subst}
-use mathlib.Core.Bool.{Bool, true, false, cond, not, _&&_, _||_}
+use mathlib.Core.Bool.{Bool, true, false, cond, not, _&&_}
 use mathlib.Core.List.{List, [], _∷_, _++_}
 use native.Mathlib.Omega.{arith}
-use lib.Bits.{bitXor, bitOr}
+use lib.Bits.{bitXor}
 use lib.Dec.{eqb, ltb}
 use lib.ListN.{length, take}
 use borrow.Author.Tests.{eq-eqb, ne-eqb, le-ltb}
-use Rattle.bits.specs.Words.{wordAt, Store, store, after}
-use Rattle.bits.specs.Bits.{fieldAt, wordsBits}
+use Rattle.bits.specs.Words.{Store, after}
 use Rattle.image.specs.declared.Layout.{Layout}
 use Rattle.image.specs.Layout.{layoutOf, pairsIn}
-use Rattle.image.specs.Content.{countIn}
-use Rattle.image.specs.Check.{checkOf, good, short, headerWrong, contentBroken}
-use Rattle.image.specs.Rules.{Good}
 use Rattle.image.proofs.Answers.{check-good, check-0}
 use Rattle.frames.specs.declared.Order.{Order}
 use Rattle.frames.specs.declared.Order.the-variants as order
-use Rattle.frames.specs.declared.Command.{Command}
 use Rattle.frames.specs.declared.Heard.{Heard}
 use Rattle.frames.specs.declared.Heard.the-variants as heard
-use Rattle.frames.specs.Frames.{span, heardOf, checksumRight}
+use Rattle.frames.specs.Frames.{span, heardOf}
 use Rattle.replies.specs.declared.Reply.{Reply}
 use Rattle.replies.specs.declared.Reply.the-variants as reply
 use Rattle.replies.specs.Replies.{replyBits, replyLength, replyBytes}
@@ -29,7 +24,6 @@ use Rattle.replies.specs.Pack.{packed}
 use Rattle.rights.specs.declared.Code.{Code}
 use Rattle.rights.specs.declared.Code.the-variants as code
 use Rattle.stores.specs.Stores.{changeStores}
-use Rattle.tag.specs.declared.Asks.{Asks}
 use Rattle.tag.specs.declared.Cover.{Cover}
 use Rattle.tag.specs.declared.Cover.the-variants as cover
 use Rattle.tag.specs.declared.Half.{Half}
@@ -43,10 +37,10 @@ use Rattle.tag.specs.declared.Session.{Session}
 use Rattle.tag.specs.Session.{offSession, on}
 use Rattle.tag.specs.Result.{Result}
 use Rattle.tag.specs.Commands.{asksOf, linkOf, isSecured, isCovered, isKilled, wrong, wrongCommand, killWord, accessWord, breaks, codeOf, used, stateAfter, replyAfter, wordsAfter}
-use Rattle.tag.specs.Table.{Input, input, said, malformed, checksumWrong, broken, errorCode, newState, doneReply, doneWords, isError, replyOr, replyOf, storesOf, fits, replied, rows, frameOf, admitOf, answered}
-use Rattle.tag.specs.Port.{isLinked, badCount, badData, refusals, transferred, registerTo, withKilled, withUnwritten, someUnwritten, writtenWords, readBits, portWords, askOf, releaseOf, registerOf, readOf, writeOf}
+use Rattle.tag.specs.Table.{Input, input, said, malformed, checksumWrong, broken, errorCode, newState, doneReply, doneWords, isError, replyOr, replyOf, storesOf, fits, replied, rows, frameOf, admitOf}
+use Rattle.tag.specs.Port.{badCount, badData, refusals, transferred, withKilled, withUnwritten, someUnwritten, writtenWords, readBits, portWords, askOf, releaseOf, registerOf, readOf, writeOf}
 use Rattle.demands.specs.Calls.{Idle}
-use Rattle.demands.specs.Commands.{Air, linked, link, done, answer, Enough, Says, Does, zeroAccess, zeroKill, Radio, Engine, Demand2}
+use Rattle.demands.specs.Commands.{Air, linked, link, done, answer, Does, Radio, Engine, Demand2}
 use Rattle.demands.proofs.Rows.{Rows, None, none-first}
 
 -- the frame that was heard as x comes to the last row

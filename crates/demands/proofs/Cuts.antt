@@ -1,20 +1,19 @@
 -- Demand 3 over the public operations: a command's cuts are cuts of its change, and power-ups those of `stores`. Assumes nothing.
-use Prim.Native.Nat.{ℕ, zero, suc, _+_, _*_, _≤_, _<_, min}
+use Prim.Native.Nat.{ℕ, _+_, _*_, _≤_, _<_}
 use mathlib.Core.Path.{_≡_, refl, sym, ap, _∙_, subst}
 use mathlib.Core.Logic.{_⊎_, inl, inr}
-use mathlib.Core.Bool.{Bool, true, false, cond}
+use mathlib.Core.Bool.{Bool, cond}
 use mathlib.Core.List.{List, [], _∷_}
 use native.Mathlib.Omega.{arith}
 use native.Mathlib.Decide.{decLt}
-use lib.Dec.{eqb, ltb}
+use lib.Dec.{ltb}
 use lib.ListN.{length, take}
 use lib.Seq.{take-all}
-use borrow.Author.Tests.{lt-ltb, le-ltb, eq-eqb, ne-eqb}
+use borrow.Author.Tests.{lt-ltb, le-ltb, ne-eqb}
 use Rattle.bits.specs.Words.{wordAt, Store, after}
 use Rattle.image.specs.declared.Layout.{Layout}
 use Rattle.image.specs.Layout.{layoutOf}
-use Rattle.image.specs.Content.{countIn}
-use Rattle.image.specs.Check.{checkOf, good}
+use Rattle.image.specs.Check.{good}
 use Rattle.image.specs.Rules.{Good}
 use Rattle.image.proofs.Answers.{check-good, good-check, check-0}
 use Rattle.stores.specs.Stores.{changeStores, powerStores, cutPowerUp, cutPowerUps, powerUp}
@@ -24,8 +23,8 @@ use Rattle.stores.proofs.Cuts.{cuts, power-cut-good}
 use Rattle.tag.specs.Session.{offSession, newSession}
 use Rattle.tag.specs.Result.{Result}
 use Rattle.tag.specs.Power.{poweredTo, firstIn, started, powerUpOf}
-use Rattle.demands.specs.Calls.{Tag, answerOf, Idle}
-use Rattle.demands.specs.Demands.{Storing, told, powerUps, SameOnce, Unbroken, Demand3}
+use Rattle.demands.specs.Calls.{Tag, answerOf}
+use Rattle.demands.specs.Demands.{Storing, told, powerUps, Unbroken, Demand3}
 use Rattle.demands.proofs.Plans.{plan-change}
 use Rattle.demands.proofs.Rows.{Refused, Acting, wordsOf, acts}
 

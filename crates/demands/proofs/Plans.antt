@@ -1,26 +1,25 @@
 -- The words of every command and of every SPI write are a change that the laws of cuts speak of, and keep what is to be kept. Assumes nothing.
 use Prim.Native.Nat.{ℕ, zero, suc, _+_, _-_, _*_, _/_, _%_, _^_, _≤_, _<_}
-use mathlib.Core.Path.{_≡_, refl, sym, ap, ap₂, _∙_, subst}
+use mathlib.Core.Path.{_≡_, refl, sym, ap, _∙_, subst}
 use mathlib.Core.Logic.{_⊎_, inl, inr, ⊎-elim}
 use mathlib.Core.Bool.{Bool, true, false, cond, not, _&&_, _||_}
-use mathlib.Core.List.{List, [], _∷_, _++_}
+use mathlib.Core.List.{List, [], _∷_}
 use native.Mathlib.Nat.{add-zero}
 use native.Mathlib.Omega.{arith}
-use native.Mathlib.Decide.{decLt}
-use lib.Dec.{eqb, leb, ltb}
+use lib.Dec.{eqb, ltb}
 use lib.Bits.{bitOr}
 use lib.ListN.{length, take, length-append}
 use borrow.Author.Tests.{eqb-true, ltb-false, le-leb, lt-ltb, le-ltb, eq-eqb, not-true}
 use Rattle.bits.specs.Words.{wordAt, Store, store, after, All}
 use Rattle.bits.specs.Bits.{bitAt, fieldAt}
 use Rattle.bits.specs.Below.{below, every}
-use Rattle.bits.proofs.Below.{and-left, and-right, or-cases, every-at, length-below}
+use Rattle.bits.proofs.Below.{and-right, or-cases, every-at, length-below}
 use Rattle.bits.proofs.Fields.{field-bit, locked-lt}
-use Rattle.bits.proofs.Stores.{Fits, all-append, all-below, all-imp, all-take, length-after, after-fine}
+use Rattle.bits.proofs.Stores.{Fits, all-append, all-below, all-imp, all-take, after-fine}
 use Rattle.image.specs.declared.Layout.{Layout}
-use Rattle.image.specs.Layout.{end, blocksIn, pairsIn}
-use Rattle.image.specs.Content.{lockWord, lengthOf, countIn, pending, mayGo}
-use Rattle.image.specs.Rules.{Header, Content, Good}
+use Rattle.image.specs.Layout.{blocksIn, pairsIn}
+use Rattle.image.specs.Content.{lockWord, lengthOf, countIn, mayGo}
+use Rattle.image.specs.Rules.{Header, Good}
 use Rattle.image.proofs.Fits.{Ok, content-fine, fine-content, same-count}
 use Rattle.frames.specs.declared.Span.{Span}
 use Rattle.frames.specs.declared.Order.{Order}
@@ -37,7 +36,7 @@ use Rattle.tag.specs.Commands.{codeOf, uncovered, placeOf, killWords, wordsAfte
 use Rattle.tag.specs.Port.{portWrites, writtenWords}
 use Rattle.tag.specs.PortSteps.{portOpen}
 use Rattle.tag.proofs.Plans.{within-bank, perma-small, write-rows, perma-rows, lock-rows}
-use Rattle.demands.proofs.Sound.{Keeps, Sound, bank-sound, user-sound, lock-sound, killed-sound, perma-sound}
+use Rattle.demands.proofs.Sound.{Sound, bank-sound, user-sound, lock-sound, killed-sound, perma-sound}
 
 -- the words ss, as a change of m
 pub record Plan (y : Layout) (m : List ℕ) (ss : List Store) : Type 0 where

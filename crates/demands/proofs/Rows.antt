@@ -1,15 +1,15 @@
 -- Which row of an answer table is given, and what a call stores where none of the refusals is. Assumes nothing.
-use Prim.Native.Nat.{ℕ, zero, suc, _+_, _*_, _/_, _%_, _≤_, _<_, min}
+use Prim.Native.Nat.{ℕ, _+_, _/_, _%_, _≤_, _<_, min}
 use mathlib.Core.Path.{_≡_, refl, sym, ap, ap₂, _∙_, subst}
 use mathlib.Core.Logic.{_⊎_, inl, inr}
 use mathlib.Core.Bool.{Bool, true, false, cond, not, _&&_, _||_}
-use mathlib.Core.List.{List, [], _∷_, _++_}
+use mathlib.Core.List.{List, [], _∷_}
 use native.Mathlib.Omega.{arith}
 use native.Mathlib.Decide.{decLt}
 use lib.Dec.{eqb, ltb, lit<}
 use lib.ListN.{length, take}
 use lib.Seq.{take-all}
-use borrow.Author.Tests.{eqb-true, ltb-false, lt-ltb, le-ltb, not-true, not-false}
+use borrow.Author.Tests.{eqb-true, ltb-false, lt-ltb, le-ltb, not-false}
 use Rattle.bits.specs.Words.{Store, after}
 use Rattle.bits.specs.First.{first}
 use Rattle.image.specs.declared.Layout.{Layout}

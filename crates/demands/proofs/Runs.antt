@@ -2,35 +2,32 @@
 use Prim.Native.Nat.{ℕ, zero, suc, _+_, _-_, _*_, _/_, _%_, _^_, _≤_, _<_}
 use mathlib.Core.Path.{_≡_, refl, sym, ap, _∙_, subst}
 use mathlib.Core.Logic.{_⊎_, inl, inr, ⊎-elim}
-use mathlib.Core.Bool.{Bool, true, false, cond}
 use mathlib.Core.List.{List, [], _∷_, _++_}
 use native.Mathlib.Nat.{le-div-iff-mul-le, div-mul-le-self}
 use native.Mathlib.Omega.{arith}
-use native.Mathlib.Decide.{decLt}
 use lib.Dec.{ltb}
 use lib.ListN.{length, take}
 use Rattle.bits.specs.Words.{wordAt, Store, store, after, All}
-use Rattle.bits.specs.Below.{below}
 use Rattle.bits.proofs.Stores.{Fine, Fits, all-take, all-append, all-imp, after-fine}
 use Rattle.image.specs.declared.Layout.{Layout}
-use Rattle.image.specs.Layout.{layoutOf, end, up, blocksIn}
-use Rattle.image.specs.Content.{lockWord, permalock, countIn, pairAt, pending}
-use Rattle.image.specs.Check.{checkOf, good}
+use Rattle.image.specs.Layout.{layoutOf, end, blocksIn}
+use Rattle.image.specs.Content.{permalock, countIn, pending}
+use Rattle.image.specs.Check.{good}
 use Rattle.image.specs.Rules.{Header, Good}
 use Rattle.image.proofs.Answers.{check-good, good-check}
 use Rattle.image.proofs.Fits.{go-below}
 use Rattle.rights.specs.Rights.{permaBit}
-use Rattle.stores.specs.Stores.{staged, finished, changeStores, settling, epcCrc, powerStores, cutPowerUp}
+use Rattle.stores.specs.Stores.{staged, finished, changeStores, settling, epcCrc, powerStores}
 use Rattle.stores.proofs.Sane.{none-pending}
 use Rattle.stores.proofs.Cuts.{cuts, cut-pending, power-cut-pending, power-cut-good}
 use Rattle.tag.specs.declared.Session.{Session}
 use Rattle.tag.specs.Result.{Result}
 use Rattle.tag.specs.Port.{badCount, transferred, refusals, readOf}
-use Rattle.demands.specs.Calls.{Call, powerUp, admit, frame, ask, release, register, read, write, Tag, answerOf, imageAfter, run, Idle}
+use Rattle.demands.specs.Calls.{Call, powerUp, admit, frame, ask, release, register, read, write, Tag, answerOf, imageAfter, run}
 use Rattle.demands.specs.Demands.{Storing, byRadio, byPort, told, Kept, AnyRun}
 use Rattle.demands.proofs.Sound.{Keeps, Sound}
 use Rattle.demands.proofs.Plans.{Plan, no-plan, plan-change}
-use Rattle.demands.proofs.Rows.{Refused, Acting, wordsOf, acts, Each, first-each}
+use Rattle.demands.proofs.Rows.{Refused, Acting, wordsOf, acts, first-each}
 use Rattle.demands.proofs.Cuts.{power-image}
 
 -- some store of the list puts v at word i

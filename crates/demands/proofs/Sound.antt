@@ -1,27 +1,22 @@
 -- The words that commands and SPI writes store: where they go, that they may stand there, and what they keep. Assumes nothing.
 use Prim.Native.Nat.{ℕ, zero, suc, _+_, _-_, _*_, _/_, _%_, _^_, _≤_, _<_}
-use mathlib.Core.Path.{_≡_, refl, sym, ap, ap₂, _∙_, subst}
-use mathlib.Core.Logic.{_⊎_, inl, inr, ⊎-elim}
-use mathlib.Core.Bool.{Bool, true, false, cond, not, _&&_, _||_}
-use mathlib.Core.List.{List, [], _∷_, _++_}
+use mathlib.Core.Path.{_≡_, refl, ap, subst}
+use mathlib.Core.Bool.{Bool, true, false, cond, _&&_}
+use mathlib.Core.List.{List}
 use native.Mathlib.Nat.{mod-one}
 use native.Mathlib.Omega.{arith}
-use native.Mathlib.Decide.{decLt}
-use lib.Dec.{eqb, leb, ltb}
 use lib.Bits.{bitOr}
-use borrow.Author.Tests.{eqb-true, eqb-false, ltb-true, ltb-false, leb-false, le-leb, lt-ltb, eq-eqb, ne-eqb, not-true}
-use Rattle.bits.specs.Words.{wordAt, Store, store, All}
-use Rattle.bits.specs.Bits.{bitAt, fieldAt}
-use Rattle.bits.specs.Below.{below, every}
-use Rattle.bits.proofs.Below.{and-left, and-right, or-cases, every-at}
-use Rattle.bits.proofs.Bits.{low-zero, zero-low}
-use Rattle.bits.proofs.Fields.{field-bit, or-keeps, or-zero}
+use borrow.Author.Tests.{eqb-true}
+use Rattle.bits.specs.Words.{wordAt, Store, store}
+use Rattle.bits.proofs.Below.{and-right}
+use Rattle.bits.proofs.Bits.{zero-low}
+use Rattle.bits.proofs.Fields.{or-keeps, or-zero}
 use Rattle.image.specs.declared.Layout.{Layout}
-use Rattle.image.specs.Layout.{end, blocksIn, up}
+use Rattle.image.specs.Layout.{end, blocksIn}
 use Rattle.image.specs.Content.{permalock, lengthOf, mayGo}
 use Rattle.image.specs.Rules.{Header, Content}
 use Rattle.image.specs.Steps.{spareIn}
-use Rattle.image.proofs.Fits.{Ok, ok-if, go-low, go-high, spare-some, spare-least, spare-most, spare-word, spare-bit}
+use Rattle.image.proofs.Fits.{Ok, ok-if, go-low, go-high, spare-least, spare-most, spare-word, spare-bit}
 use Rattle.rights.specs.Rights.{bankOf, permaBit, opens, pairOf, blockOpen, mayWrite}
 
 -- v may stand at word i of an image that came from m: header, TID, permalocks and the words of permalocked blocks are as they were

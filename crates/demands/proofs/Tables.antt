@@ -1,16 +1,15 @@
 -- Demand 1: each promise allows one outcome, and each answer leaves what the table says. Assumes nothing.
-use Prim.Native.Nat.{ℕ, zero, suc, _+_, _*_, _/_, _≤_, _<_}
-use mathlib.Core.Path.{_≡_, refl, sym, ap, ap₂, _∙_}
-use mathlib.Core.Logic.{_⊎_, inl, inr, ⊎-elim}
+use Prim.Native.Nat.{ℕ, _*_, _/_, _≤_}
+use mathlib.Core.Path.{_≡_, refl, sym, ap, _∙_}
+use mathlib.Core.Logic.{⊎-elim}
 use mathlib.Core.Bool.{Bool, true, false, cond, not, _&&_, _||_}
 use mathlib.Core.List.{List, [], _∷_, _++_}
 use native.Mathlib.Omega.{arith}
 use lib.Dec.{eqb, leb, ltb, lit≤}
 use lib.ListN.{length, take}
 use borrow.Author.Tests.{eqb-true, leb-true}
-use Rattle.bits.specs.Words.{Store, after}
+use Rattle.bits.specs.Words.{after}
 use Rattle.bits.specs.Bits.{wordsBits}
-use Rattle.bits.specs.First.{first}
 use Rattle.bits.proofs.Below.{and-right, or-cases}
 use Rattle.image.specs.Layout.{layoutOf, within}
 use Rattle.image.specs.declared.Fit.{Fit}
@@ -24,7 +23,6 @@ use Rattle.replies.proofs.Laws.{packed-none}
 use Rattle.rights.specs.declared.Code.{Code}
 use Rattle.rights.specs.declared.Code.the-variants as code
 use Rattle.stores.specs.Stores.{changeStores, powerStores}
-use Rattle.tag.specs.declared.State.{State}
 use Rattle.tag.specs.declared.State.the-variants as state
 use Rattle.tag.specs.declared.Session.{Session}
 use Rattle.tag.specs.Session.{offSession, newSession}
@@ -32,7 +30,7 @@ use Rattle.tag.specs.Result.{Result, leaves}
 use Rattle.tag.specs.One.{one-outcome}
 use Rattle.tag.specs.Commands.{isKilled, used}
 use Rattle.tag.specs.Power.{poweredTo, firstIn, started, powerUpOf}
-use Rattle.tag.specs.Table.{Input, input, said, stateOf, liveOf, isOff, isArbitrate, isError, errorCode, doneReply, newState, replyOr, replyOf, fits, storesOf, movedTo, dropped, cut, replied, rows, frameOf, answered, admitOf}
+use Rattle.tag.specs.Table.{Input, input, said, stateOf, liveOf, isOff, isArbitrate, isError, errorCode, doneReply, newState, replyOr, replyOf, fits, storesOf, movedTo, dropped, replied, rows, frameOf, answered, admitOf}
 use Rattle.tag.specs.Port.{isLinked, heldTo, told, askOf, releaseOf, registerOf, badCount, badData, readBits, portWords, someUnwritten, registerTo, withKilled, withUnwritten, transferred, refusals, readOf, writeOf}
 use Rattle.demands.specs.Calls.{Call, powerUp, admit, frame, ask, release, register, read, write, Tag, answerOf, sessionIn, imageIn, roomIn, powerIn, storesIn}
 use Rattle.demands.specs.Demands.{refuses, Tabled, Demand1}

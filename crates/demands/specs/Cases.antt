@@ -19,13 +19,12 @@ use Rattle.replies.specs.Pack.{filled, packed}
 use Rattle.replies.specs.Replies.{checked}
 use Rattle.rights.specs.Rights.{writeCode, lockedTo, lockCode}
 use Rattle.stores.specs.Stores.{powerStores}
-use Rattle.tag.specs.declared.Session.{Session}
 use Rattle.tag.specs.declared.State.the-variants as state
 use Rattle.tag.specs.Result.{Result}
 use Rattle.tag.specs.Power.{started, powerUpOf}
-use Rattle.tag.specs.Table.{input, liveOf, storesOf, frameOf}
+use Rattle.tag.specs.Table.{liveOf, frameOf}
 use Rattle.tag.specs.Port.{numberIn, writeOf}
-use Rattle.demands.specs.Calls.{frame, write, storesIn}
+use Rattle.demands.specs.Calls.{frame, storesIn}
 use Rattle.demands.specs.Worked.{write3, lock10, lock11, secured, sent, locked}
 use Rattle.demands.specs.Ports.{holding, fourWords}
 use Rattle.demands.specs.Ports.{locked as blockLocked}

@@ -1,6 +1,6 @@
 -- DEMAND 2, command by command: for a good image with nothing pending, a session that the command is for, room and power enough: the reply's bits,
 -- the session and the words stored (RULES D2, 3.9 to 3.22 and 4). Its proof: `demand-2` in proofs/Commands. Assumes nothing.
-use Prim.Native.Nat.{ℕ, _+_, _-_, _*_, _/_, _≤_, _<_}
+use Prim.Native.Nat.{ℕ, _+_, _-_, _*_, _≤_}
 use mathlib.Core.Path.{_≡_}
 use mathlib.Core.Bool.{Bool, true, false, cond, _&&_}
 use mathlib.Core.List.{List, [], _∷_}

@@ -1,13 +1,13 @@
 -- What the buyer asked for (RULES D1 to D3), as statements. Their proofs: `demand-1`, `demand-2`, `demand-3` and `any-run` in proofs/. Assumes nothing.
 use Prim.Native.Nat.{ℕ, _+_, _*_, _/_, _≤_, _<_}
 use mathlib.Core.Path.{_≡_}
-use mathlib.Core.Bool.{Bool, true, false, _||_}
+use mathlib.Core.Bool.{Bool, true, _||_}
 use mathlib.Core.List.{List, [], _∷_, _++_}
 use lib.Dec.{eqb}
-use lib.ListN.{length, take}
-use Rattle.bits.specs.Words.{wordAt, Store, after}
+use lib.ListN.{take}
+use Rattle.bits.specs.Words.{wordAt, after}
 use Rattle.image.specs.declared.Layout.{Layout}
-use Rattle.image.specs.Layout.{layoutOf, end, blocksIn, within}
+use Rattle.image.specs.Layout.{end, blocksIn, within}
 use Rattle.image.specs.Content.{lockWord, permalock}
 use Rattle.image.specs.declared.Fit.{Fit}
 use Rattle.image.specs.Check.{checkOf, meaning, good}

@@ -1,26 +1,23 @@
 -- Empty programs fall (RULES 7.3): what each would answer to a frame, and that the promise refutes it at a named input. Assumes nothing.
-use Prim.Native.Nat.{ℕ, _+_, _*_, _≤_}
+use Prim.Native.Nat.{ℕ, _≤_}
 use mathlib.Core.Path.{_≡_, refl, sym, ap, _∙_}
-use mathlib.Core.List.{List, [], _∷_, _++_}
+use mathlib.Core.List.{List, _++_}
 use native.Mathlib.Omega.{arith}
-use lib.Dec.{lit≤}
-use lib.ListN.{length, take, replicate, getD}
-use Rattle.bits.specs.Words.{wordAt, withWord, store, after}
+use lib.ListN.{take, replicate, getD}
+use Rattle.bits.specs.Words.{wordAt, withWord, after}
 use Rattle.bits.specs.Bits.{fieldAt, bitsOf, wordsBits}
 use Rattle.crc.specs.Crc.{crcOf}
 use Rattle.ebv.specs.Ebv.{pointerAt}
 use Rattle.image.specs.Layout.{layoutOf, headerGood, blocksIn}
 use Rattle.image.specs.Content.{rulesHold, contentGood}
 use Rattle.image.specs.Worked.{worked}
-use Rattle.frames.specs.Frames.{heardOf, checksumRight}
-use Rattle.replies.specs.Pack.{filled, packed}
-use Rattle.replies.specs.Replies.{checked}
-use Rattle.rights.specs.Rights.{readCode, writeCode}
+use Rattle.frames.specs.Frames.{heardOf}
+use Rattle.replies.specs.Pack.{packed}
 use Rattle.stores.specs.Stores.{powerStores}
 use Rattle.tag.specs.Result.{Result}
 use Rattle.tag.specs.Power.{started, powerUpOf}
 use Rattle.tag.specs.Table.{Input, input, said, everything, doneWords, storesOf, frameOf}
-use Rattle.demands.specs.Worked.{write3, readTwo, secured, sent, sent-cases}
+use Rattle.demands.specs.Worked.{write3, readTwo, secured, sent-cases}
 
 -- a program for frames, and the promise of `frame`
 abbrev pub Program : Type 0

@@ -1,10 +1,9 @@
 -- Power-up and frames on the worked image, computed (RULES 6.3), and wrong answers that the promises rule out. Assumes nothing.
 use Prim.Native.Nat.{ℕ}
 use mathlib.Core.Path.{_≡_, refl, sym, ap, _∙_}
-use mathlib.Core.Bool.{Bool, true, false}
 use mathlib.Core.List.{List, [], _∷_}
 use native.Mathlib.Omega.{arith}
-use lib.ListN.{replicate, take, length}
+use lib.ListN.{replicate}
 use Rattle.bits.specs.Words.{wordAt, withWord}
 use Rattle.bits.specs.Bits.{fieldAt, bitsOf, wordsBits}
 use Rattle.crc.specs.Crc.{crcOf}
@@ -19,7 +18,6 @@ use Rattle.rights.specs.Rights.{readCode, writeCode}
 use Rattle.stores.specs.Stores.{powerStores}
 use Rattle.tag.specs.declared.Cover.the-variants as cover
 use Rattle.tag.specs.declared.Half.the-variants as half
-use Rattle.tag.specs.declared.State.{State}
 use Rattle.tag.specs.declared.State.the-variants as state
 use Rattle.tag.specs.declared.Session.{Session}
 use Rattle.tag.specs.Session.{offSession, newSession}

@@ -1,5 +1,5 @@
 -- The check's answer from its steps, and what a caller learns from it. Assumes nothing.
-use Prim.Native.Nat.{ℕ, _+_, _*_, _≤_, _<_}
+use Prim.Native.Nat.{ℕ, _*_, _≤_}
 use mathlib.Core.Path.{_≡_, refl, sym, _∙_, subst}
 use mathlib.Core.Bool.{Bool, true, false, not, cond}
 use mathlib.Core.List.{List}
@@ -8,10 +8,10 @@ use lib.Dec.{eqb}
 use lib.ListN.{length}
 use borrow.Author.Tests.{le-ltb, eqb-false}
 use Rattle.image.specs.declared.Layout.{Layout}
-use Rattle.image.specs.Layout.{end, layoutOf, headerGood}
+use Rattle.image.specs.Layout.{layoutOf, headerGood}
 use Rattle.image.specs.Content.{contentGood}
-use Rattle.image.specs.Check.{Checked, refused, good, short, headerWrong, contentBroken, checkOf}
-use Rattle.image.specs.Rules.{Header, Good}
+use Rattle.image.specs.Check.{refused, good, short, headerWrong, contentBroken, checkOf}
+use Rattle.image.specs.Rules.{Good}
 use Rattle.image.specs.Steps.{contentFits}
 use Rattle.image.proofs.Rules.{header-both, content-both}
 use Rattle.image.proofs.Fits.{same-content}

@@ -1,14 +1,14 @@
 -- The content rules as rules of single words: the check's steps are the paper's rules. Assumes nothing.
-use Prim.Native.Nat.{ℕ, zero, suc, _+_, _-_, _*_, _/_, _%_, _^_, _≤_, _<_}
+use Prim.Native.Nat.{ℕ, _+_, _-_, _*_, _/_, _%_, _^_, _≤_, _<_}
 use mathlib.Core.Path.{_≡_, refl, sym, ap₂, subst}
 use mathlib.Core.Logic.{_⊎_, inl, inr, ⊎-elim}
-use mathlib.Core.Bool.{Bool, true, _&&_, _||_, or-true}
+use mathlib.Core.Bool.{true, or-true}
 use mathlib.Core.List.{List, [], _∷_}
 use native.Mathlib.Nat.{mod-one}
 use native.Mathlib.Omega.{arith}
 use native.Mathlib.Decide.{decLt}
-use lib.Dec.{eqb, leb, ltb}
-use lib.ListN.{length, take}
+use lib.Dec.{leb, ltb}
+use lib.ListN.{take}
 use borrow.Author.Tests.{ltb-true, leb-true, eqb-true, lt-ltb, le-leb, eq-eqb, ne-eqb}
 use Rattle.bits.specs.Words.{wordAt, Store, store, after}
 use Rattle.bits.specs.Below.{every}
@@ -18,7 +18,7 @@ use Rattle.bits.proofs.Stores.{Under, Fine, Fits, all-below, below-all, all-tak
 use Rattle.image.specs.declared.Section.{Section}
 use Rattle.image.specs.declared.Layout.{Layout}
 use Rattle.image.specs.Layout.{end, blocksIn, pairsIn}
-use Rattle.image.specs.Content.{permalock, countIn, pairAt, pending, inside, mayGo, contentGood}
+use Rattle.image.specs.Content.{countIn, pairAt, pending, inside, mayGo, contentGood}
 use Rattle.image.specs.Rules.{Header, Content}
 use Rattle.image.specs.Steps.{spareIn, mayStand, between, mayTake, wordFits, lastIn, wordsFit, pairFits, contentFits}
 use Rattle.image.proofs.Rules.{content-both}

@@ -1,8 +1,8 @@
 -- The tests of a good image say what the rules say, both ways. Assumes nothing.
-use Prim.Native.Nat.{ℕ, zero, suc, _+_, _-_, _*_, _^_, _≤_, _<_}
+use Prim.Native.Nat.{ℕ, zero, suc, _+_, _-_, _*_, _≤_}
 use mathlib.Core.Path.{_≡_, refl}
 use mathlib.Core.Logic.{_↔_}
-use mathlib.Core.Bool.{Bool, true, _&&_}
+use mathlib.Core.Bool.{true, _&&_}
 use mathlib.Core.List.{List, [], _∷_}
 use native.Mathlib.Omega.{arith}
 use lib.Dec.{eqb, leb}
@@ -13,7 +13,7 @@ use Rattle.bits.proofs.Below.{and-left, and-right, and-both, every-at, every-al
 use Rattle.image.specs.declared.Section.{Section}
 use Rattle.image.specs.declared.Layout.{Layout}
 use Rattle.image.specs.Layout.{within, stands, headerRules, headerGood, blocksIn}
-use Rattle.image.specs.Content.{permalock, pairAt, countIn, mayGo, pending, contentRules, rulesHold, againAfter, contentGood}
+use Rattle.image.specs.Content.{permalock, pairAt, mayGo, pending, contentRules, rulesHold, againAfter, contentGood}
 use Rattle.image.specs.Rules.{Stands, Header, Content}
 
 within-fact : (a b x : ℕ) → within a b x ≡ true → (a ≤ x) × (x ≤ b)

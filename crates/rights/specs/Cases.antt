@@ -1,4 +1,4 @@
--- P10 and P11 (RULES 6.2), the limits that are run, and the edges of word rights, computed on the worked image. Assumes nothing.
+-- The limits that are run, and the edges of word rights, computed on the worked image. Assumes nothing.
 use mathlib.Core.Path.{_≡_, refl}
 use mathlib.Core.Bool.{true, false}
 use mathlib.Core.List.{[], _∷_}
@@ -86,9 +86,6 @@ reads = record { kill-10 = refl; kill-10-secured = refl; kill-10-to-end = refl; 
 
 -- Lock and BlockPermalock
 pub record Locks : Type 0 where
-  pub p10 : lockCode workedLayout (withWord worked 16 0x003) 0x021 0x021 ≡ code.Nothing
-  pub p10-word : lockedTo 0x003 0x021 0x021 ≡ 0x023
-  pub p11 : lockCode workedLayout (withWord worked 16 0x003) 0x021 0x020 ≡ noRight
   pub pwd-of-11 : lockCode workedLayout (withWord worked 16 0x003) 0x002 0x000 ≡ noRight
   pub pwd-of-01 : lockCode workedLayout (withWord worked 16 0x001) 0x002 0x002 ≡ noRight
   pub user-to-01 : lockCode workedLayout worked 0x001 0x001 ≡ code.Nothing
@@ -105,9 +102,6 @@ pub locks : Locks
 unfolding lockCode lockedTo permaCode permaReadCode blocksIn worked wordAt withWord
 locks =
     record {
-      p10 = refl;
-      p10-word = refl;
-      p11 = refl;
       pwd-of-11 = refl;
       pwd-of-01 = refl;
       user-to-01 = refl;

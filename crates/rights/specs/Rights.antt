@@ -1,10 +1,9 @@
 -- Word rights and error codes (RULES 3.18 to 3.22). Assumes nothing.
 use Prim.Native.Nat.{ℕ, _+_, _-_, _*_, _/_, _%_, _^_}
-use mathlib.Core.Bool.{Bool, true, false, cond, not, _&&_, _||_}
+use mathlib.Core.Bool.{Bool, cond, not, _&&_, _||_}
 use mathlib.Core.List.{List, [], _∷_}
 use lib.Bits.{bitAnd, bitOr, bitXor}
 use lib.Dec.{eqb, leb, ltb}
-use Rattle.bits.specs.Words.{wordAt}
 use Rattle.bits.specs.Bits.{bitAt}
 use Rattle.bits.specs.Below.{every}
 use Rattle.bits.specs.First.{first}

@@ -1,7 +1,7 @@
 -- A change and a power-up from their parts. Assumes nothing.
 use Prim.Native.Nat.{ℕ, zero, suc, _+_, _*_, _-_, _≤_, _<_}
 use mathlib.Core.Path.{_≡_, refl, sym, ap, ap₂, _∙_, subst}
-use mathlib.Core.List.{List, [], _∷_, _++_, append-assoc}
+use mathlib.Core.List.{List, [], _∷_, _++_}
 use mathlib.Core.Bool.{Bool, true, false, cond}
 use native.Mathlib.Omega.{arith}
 use native.Mathlib.Decide.{decLe}
@@ -14,19 +14,18 @@ use Rattle.bits.specs.Words.{wordAt, Store, store, after}
 use Rattle.bits.specs.Bits.{bitsFrom, wordsBits}
 use Rattle.bits.proofs.Bits.{bits-drop, words-bits}
 use Rattle.crc.specs.Crc.{crcOf}
-use Rattle.bits.proofs.Stores.{Under, all-append, below-all, after-append, after-avoids, length-after}
+use Rattle.bits.proofs.Stores.{Under, all-append, below-all, after-append}
 use Rattle.bits.proofs.Words.{word-with-other}
 use Rattle.image.specs.declared.Layout.{Layout}
-use Rattle.image.specs.Layout.{end, pairsIn}
 use Rattle.image.specs.Content.{countIn, pairAt, pending, pcWord, lengthOf}
-use Rattle.image.specs.Rules.{Header, Content, Good}
+use Rattle.image.specs.Rules.{Good}
 use Rattle.image.proofs.Fits.{go-below}
 use Rattle.bits.specs.Below.{below}
 use Rattle.bits.proofs.Below.{length-below}
 use Rattle.stores.specs.Stores.{staged, finished, changeStores, epcCrc, settling, powerStores}
 use Rattle.stores.specs.Steps.{Ran, Made, Announced, announced, pairIn, pairsAt, wordFrom, chosenAt, chosen}
 use Rattle.stores.specs.declared.Staged.{Staged}
-use Rattle.stores.proofs.Runs.{shifted, shifted-append, shifted-staged, length-staged, ran-tail, ran-append, ran-out, ran-none, ran-whole, ran-made}
+use Rattle.stores.proofs.Runs.{shifted, shifted-append, shifted-staged, length-staged, ran-tail, ran-append, ran-out, ran-whole, ran-made}
 use Rattle.stores.proofs.Pairs.{announced-pairs}
 
 -- the words of a change lie where it was told

@@ -8,18 +8,18 @@ use mathlib.Core.List.{List, [], _∷_, _++_, append-assoc}
 use native.Mathlib.Omega.{arith}
 use native.Mathlib.Decide.{decLe}
 use lib.Dec.{eqb}
-use lib.ListN.{length, take, length-append}
+use lib.ListN.{length, take}
 use lib.Seq.{take-append-le, take-append-add, take-all}
-use borrow.Author.Tests.{eqb-true, eqb-false}
-use Rattle.bits.specs.Words.{wordAt, withWord, Store, store, after, All}
+use borrow.Author.Tests.{eqb-false}
+use Rattle.bits.specs.Words.{wordAt, withWord, Store, store, after}
 use Rattle.bits.specs.Below.{below}
-use Rattle.bits.proofs.Below.{length-below, below-same}
+use Rattle.bits.proofs.Below.{length-below}
 use Rattle.bits.proofs.Words.{length-with, word-with-same, word-with-other}
-use Rattle.bits.proofs.Stores.{Under, Fine, Fits, Avoids, all-take, under-avoids, length-after, after-append, after-avoids, after-again, after-fine, word-with, word-after, last}
+use Rattle.bits.proofs.Stores.{Under, Fine, Fits, all-take, under-avoids, length-after, after-append, after-avoids, after-again, after-fine, word-with, word-after, last}
 use Rattle.image.specs.declared.Layout.{Layout}
-use Rattle.image.specs.Layout.{layoutOf, end, pairsIn}
-use Rattle.image.specs.Content.{countIn, pairAt, pending, mayGo}
-use Rattle.image.specs.Rules.{Header, Content, Good}
+use Rattle.image.specs.Layout.{layoutOf, end}
+use Rattle.image.specs.Content.{countIn, pairAt, pending}
+use Rattle.image.specs.Rules.{Header, Good}
 use Rattle.image.proofs.Fits.{ok-if}
 use Rattle.stores.specs.Stores.{staged, finished, changeStores, epcCrc, settling, powerStores, cutPowerUp, cutPowerUps, powerUp}
 use Rattle.stores.specs.Cuts.{Change, cutImage, CutLaws, Cuts}

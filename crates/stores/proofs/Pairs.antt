@@ -1,6 +1,6 @@
 -- Staged pairs are read back as they were. Assumes nothing.
-use Prim.Native.Nat.{ℕ, zero, suc, _+_, _*_, _≤_, _<_}
-use mathlib.Core.Path.{_≡_, refl, sym, ap, ap₂, _∙_}
+use Prim.Native.Nat.{ℕ, suc, _+_, _*_, _≤_, _<_}
+use mathlib.Core.Path.{_≡_, refl, ap, ap₂, _∙_}
 use mathlib.Core.List.{List, [], _∷_, _++_}
 use native.Mathlib.Omega.{arith}
 use lib.ListN.{length}
@@ -8,7 +8,7 @@ use Rattle.bits.specs.Words.{wordAt, withWord, Store, store, after}
 use Rattle.bits.specs.Below.{below}
 use Rattle.bits.proofs.Below.{below-cons, below-same}
 use Rattle.bits.proofs.Words.{length-with, word-with-same, word-with-other}
-use Rattle.bits.proofs.Stores.{Avoids, length-after, after-append, after-avoids}
+use Rattle.bits.proofs.Stores.{Avoids, after-append, after-avoids}
 use Rattle.stores.specs.Stores.{staged}
 use Rattle.stores.specs.Steps.{pairIn, pairsAt}
 

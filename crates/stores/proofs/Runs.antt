@@ -1,10 +1,10 @@
 -- How runs of stores start, go on and end, under a limited power. Assumes nothing.
-use Prim.Native.Nat.{ℕ, zero, suc, _+_, _*_, _-_, _≤_, _<_, min}
+use Prim.Native.Nat.{ℕ, zero, suc, _+_, _*_, _-_, _≤_, _<_}
 use mathlib.Core.Path.{_≡_, refl, ap, sym, _∙_}
 use mathlib.Core.Logic.{_≢_}
 use mathlib.Core.Bool.{Bool, true, false, cond}
 use lib.Dec.{eqb}
-use mathlib.Core.List.{List, [], _∷_, _++_, append-assoc, append-nil}
+use mathlib.Core.List.{List, [], _∷_, _++_, append-nil}
 use native.Mathlib.Numerals.{add-one}
 use native.Mathlib.Nat.{sub-zero}
 use native.Mathlib.Omega.{arith}
@@ -19,7 +19,7 @@ use Rattle.bits.proofs.Words.{drop-with, take-with, word-with-other}
 use Rattle.bits.proofs.Stores.{length-after}
 use Rattle.stores.specs.Stores.{staged, finished}
 use Rattle.stores.specs.declared.Staged.{Staged}
-use Rattle.stores.specs.Steps.{Ran, Made, StagedTo, Announced, announced, wordFrom, chosenAt, chosen}
+use Rattle.stores.specs.Steps.{Ran, Made, StagedTo, Announced, wordFrom, chosenAt, chosen}
 
 -- the first s of two lists of stores
 take-append : (s : ℕ) (a b : List Store) (m : List ℕ) → after m (take s (a ++ b)) ≡ after (after m (take s a)) (take (s - length a) b)

@@ -1,19 +1,19 @@
 -- Images with one header: good ones, word by word, and what their pending words come to. Assumes nothing.
-use Prim.Native.Nat.{ℕ, zero, suc, _+_, _*_, _/_, _≤_, _<_}
+use Prim.Native.Nat.{ℕ, _+_, _*_, _≤_, _<_}
 use mathlib.Core.Path.{_≡_, refl, sym, ap, ap₂, _∙_, subst}
 use mathlib.Core.Logic.{_≢_}
-use mathlib.Core.Bool.{Bool, true, false, cond}
-use mathlib.Core.List.{List, [], _∷_, _++_}
+use mathlib.Core.Bool.{true}
+use mathlib.Core.List.{List, [], _∷_}
 use native.Mathlib.Omega.{arith}
 use lib.ListN.{length, take}
 use Rattle.bits.specs.Words.{wordAt, Store, store, after, All}
 use Rattle.bits.specs.Below.{below}
 use Rattle.bits.proofs.Below.{below-same}
 use Rattle.bits.proofs.Bits.{words-same}
-use Rattle.bits.proofs.Stores.{Under, Fine, Fits, all-take, all-imp, all-below, below-all, under-avoids, length-after, after-avoids, after-again, after-fine, fine-fits}
+use Rattle.bits.proofs.Stores.{Under, Fine, Fits, all-take, all-imp, all-below, below-all, after-fine, fine-fits}
 use Rattle.crc.specs.Crc.{crcOf}
 use Rattle.image.specs.declared.Layout.{Layout}
-use Rattle.image.specs.Layout.{layoutOf, sectionAt, end, pairsIn}
+use Rattle.image.specs.Layout.{layoutOf, pairsIn}
 use Rattle.image.specs.Content.{countIn, pairAt, pending, mayGo, pcWord, lengthOf}
 use Rattle.image.specs.Rules.{Header, Content, Good}
 use Rattle.image.proofs.Fits.{Ok, at-pc, content-fine, fine-content, go-below, same-count, same-pair}

@@ -6,7 +6,7 @@ use mathlib.Core.List.{List}
 use lib.ListN.{length, take}
 use Rattle.bits.specs.Words.{wordAt, Store, after, All}
 use Rattle.image.specs.declared.Layout.{Layout}
-use Rattle.image.specs.Layout.{layoutOf, pairsIn}
+use Rattle.image.specs.Layout.{pairsIn}
 use Rattle.image.specs.Content.{countIn, mayGo}
 use Rattle.image.specs.Rules.{Content, Good}
 use Rattle.stores.specs.Stores.{changeStores, cutPowerUps, powerUp}

@@ -1,5 +1,5 @@
 -- The stores of a change and of power-up (RULES 2.1 to 2.6). Assumes nothing.
-use Prim.Native.Nat.{ℕ, _+_, _*_}
+use Prim.Native.Nat.{ℕ, _+_}
 use mathlib.Core.List.{List, [], _∷_, _++_}
 use lib.ListN.{length, take}
 use Rattle.bits.specs.Words.{Store, store, after}

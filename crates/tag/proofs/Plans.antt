@@ -1,5 +1,5 @@
 -- Where no error code applies, an order's words lie in the image and its change can be made. Assumes nothing.
-use Prim.Native.Nat.{ℕ, _+_, _-_, _*_, _/_, _^_, _≤_, _<_}
+use Prim.Native.Nat.{ℕ, _+_, _-_, _*_, _≤_, _<_}
 use mathlib.Core.Path.{_≡_, refl, sym, ap, _∙_}
 use mathlib.Core.Bool.{Bool, true, false, cond, not, _||_}
 use mathlib.Core.List.{List}
@@ -7,7 +7,6 @@ use native.Mathlib.Omega.{arith}
 use lib.Dec.{eqb, leb, ltb}
 use lib.ListN.{length}
 use borrow.Author.Tests.{ltb-false, leb-false, not-false}
-use Rattle.image.specs.declared.Section.{Section}
 use Rattle.image.specs.declared.Layout.{Layout}
 use Rattle.image.specs.Layout.{end, blocksIn, pairsIn}
 use Rattle.image.specs.Content.{lockWord}

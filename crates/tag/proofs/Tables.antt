@@ -1,7 +1,7 @@
 -- The answer table is what the code does, row by row. Assumes nothing.
-use Prim.Native.Nat.{ℕ, _≤_}
-use mathlib.Core.Path.{_≡_, refl, sym, ap, ap₂, _∙_}
-use mathlib.Core.Bool.{Bool, true, false, cond, not, _&&_, _||_}
+use Prim.Native.Nat.{ℕ}
+use mathlib.Core.Path.{_≡_, refl, sym, ap, _∙_}
+use mathlib.Core.Bool.{Bool, true, false, cond, not, _&&_}
 use mathlib.Core.List.{List, []}
 use native.Mathlib.Omega.{arith}
 use lib.Dec.{eqb, ltb}
@@ -30,13 +30,12 @@ use Rattle.stores.specs.Stores.{changeStores}
 use Rattle.tag.specs.declared.State.{State}
 use Rattle.tag.specs.declared.State.the-variants as state
 use Rattle.tag.specs.declared.Live.{Live}
-use Rattle.tag.specs.declared.Power.the-variants as power
 use Rattle.tag.specs.declared.Session.{Session}
 use Rattle.tag.specs.Session.{offSession}
 use Rattle.tag.specs.Result.{Result, result}
 use Rattle.tag.specs.Commands.{asksOf, linkOf, isSecured, isKilled, wrong, wrongCommand, breaks, codeOf, used, stateAfter, replyAfter, wordsAfter}
 use Rattle.tag.specs.Table.{input, malformed, checksumWrong, broken, errorCode, newState, doneReply, doneWords, isError, replyOr, fits, movedTo, everything, frameOf}
-use Rattle.tag.specs.Steps.{Placed, onSession, kept, errorEnd, doneEnd, actOf, orderOf, byCode, droppedWith, commandOf, movedWith, heardBy, liveBy}
+use Rattle.tag.specs.Steps.{Placed, onSession, kept, errorEnd, doneEnd, actOf, byCode, droppedWith, commandOf, movedWith, heardBy, liveBy}
 
 -- a reply given, with its state and stores
 abbrev given : Live → List ℕ → List ℕ → ℕ → Reply → State → List Store → Result

@@ -6,7 +6,6 @@ use mathlib.Core.List.{List}
 use lib.Dec.{eqb}
 use Rattle.tag.specs.declared.Answer.{Answer}
 use Rattle.tag.specs.declared.Answer.the-variants as answer
-use Rattle.tag.specs.declared.Session.{Session}
 use Rattle.tag.specs.declared.Outcome.{Outcome}
 use Rattle.tag.specs.Session.{numberOf}
 use Rattle.tag.specs.Result.{Result, result}

@@ -1,6 +1,5 @@
 -- `changes::store_one` meets its contract: one word of a buffer. Assumes nothing.
 use Rattle.changes.proofs.Words.{made-one}
-use denote.Ref.{now}
 use borrow.Author.Needs.{needs}
 use Rattle.changes.proofs.store_one.Statement.{statement}
 use Rattle.changes.proofs.store_one.Tie as tie

@@ -3,7 +3,6 @@ use Rattle.bits.specs.Words.{store}
 use mathlib.Core.Path.{ap}
 use Prim.Native.Nat.{_+_}
 use Rattle.changes.proofs.Words.{made-same, zero-word}
-use denote.Ref.{now}
 use borrow.Author.Needs.{needs}
 use Rattle.changes.proofs.store_zeros.Statement.{statement}
 use Rattle.changes.proofs.store_zeros.Tie as tie

@@ -1,6 +1,5 @@
 -- `tag::acting::read_reply` meets its contract: the words that a Read sends. Assumes nothing.
 use Rattle.tag.specs.Steps.{replyRead}
-use native.Mathlib.Omega.{arith}
 use borrow.Author.Tests.{eq-eqb, ne-eqb}
 use borrow.Author.Needs.{needs}
 use Rattle.tag.proofs.acting.read_reply.Statement.{statement}

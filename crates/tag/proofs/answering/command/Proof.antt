@@ -2,7 +2,6 @@
 use Rattle.tag.proofs.Plans.{command-wrong, command-broken, command-order}
 use mathlib.Core.Path.{sym, _∙_}
 use denote.Ref.{now}
-use Rattle.tag.specs.Steps.{commandOf}
 use borrow.Author.Needs.{needs}
 use Rattle.tag.proofs.answering.command.Statement.{statement}
 use Rattle.tag.proofs.answering.command.Tie as tie

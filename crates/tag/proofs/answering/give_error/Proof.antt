@@ -1,6 +1,6 @@
 -- `tag::answering::give_error` meets its contract: an error reply, or no room for it. Assumes nothing.
 use Rattle.tag.specs.Steps.{errorEnd}
-use borrow.Author.Tests.{eq-eqb, ne-eqb, lt-ltb, le-ltb}
+use borrow.Author.Tests.{lt-ltb, le-ltb}
 use borrow.Author.Needs.{needs}
 use Rattle.tag.proofs.answering.give_error.Statement.{statement}
 use Rattle.tag.proofs.answering.give_error.Tie as tie

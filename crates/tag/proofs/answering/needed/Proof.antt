@@ -1,5 +1,5 @@
 -- `tag::answering::needed` meets its contract: 3n + 2 stores for n words, none for none. Assumes nothing.
-use borrow.Author.Tests.{eq-eqb, ne-eqb, lt-ltb, le-ltb}
+use borrow.Author.Tests.{eq-eqb, ne-eqb}
 use borrow.Author.Needs.{needs}
 use Rattle.tag.proofs.answering.needed.Statement.{statement}
 use Rattle.tag.proofs.answering.needed.Tie as tie

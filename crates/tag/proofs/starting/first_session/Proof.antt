@@ -1,5 +1,5 @@
 -- `tag::starting::first_session` meets its contract: by the killed word. Assumes nothing.
-use borrow.Author.Tests.{eq-eqb, ne-eqb, lt-ltb, le-ltb}
+use borrow.Author.Tests.{eq-eqb, ne-eqb}
 use borrow.Author.Needs.{needs}
 use Rattle.tag.proofs.starting.first_session.Statement.{statement}
 use Rattle.tag.proofs.starting.first_session.Tie as tie
