@@ -2,7 +2,7 @@
 use Prim.Native.Nat.{ℕ, zero, suc, _+_, _-_, _*_, _/_, _%_, _^_, _≤_, _<_}
 use mathlib.Core.Path.{_≡_, refl, sym, ap, _∙_, subst}
 use mathlib.Core.Logic.{_⊎_, inl, inr, ⊎-elim}
-use mathlib.Core.Bool.{Bool, true, false, cond, not, _&&_, _||_}
+use mathlib.Core.Bool.{true≢false, false≢true, Bool, true, false, cond, not, _&&_, _||_}
 use mathlib.Core.List.{List, [], _∷_}
 use native.Mathlib.Nat.{add-zero}
 use native.Mathlib.Omega.{arith}
@@ -71,7 +71,7 @@ pair-kept old new k e p = go (eqb (permaBit new k) 1) (eqb (pwdBit new k) (pwdBi
   where
     go : (t u : Bool) → eqb (permaBit new k) 1 ≡ t → not (t && u) ≡ false → permaBit new k ≡ 1
     go true u q e = eqb-true _ _ q
-    go false u q e = absurd (let z : _≡_ {A = ℕ} (cond true 1 0) (cond false 1 0) = ap (λ (t : Bool). cond t 1 0) e in omega arith)
+    go false u q e = absurd (true≢false e)
 
 module _ (y : Layout) (m : List ℕ) (g : Good y m) where
   hd : Header y m
@@ -137,10 +137,7 @@ module _ (y : Layout) (m : List ℕ) (g : Good y m) where
           let e = every-at (λ k. eqb (bitAt f (p + k)) 0 || ltb (16 * s .pointer + k) (blocksIn y)) (16 * s .count) (r .1) (16 * j + (15 - t)) k in
           field-bit f (p + 16 * j) 16 t h
           ∙ ap (bitAt f) z
-          ∙ ⊎-elim (λ a. eqb-true _ _ a) (λ a. absurd (never (sym (le-ltb _ _ late) ∙ a))) (or-cases _ _ e)
-        where
-          never : false ≡ true → ⊥
-          never e = let z : _≡_ {A = ℕ} (cond false 1 0) (cond true 1 0) = ap (λ (t : Bool). cond t 1 0) e in omega arith
+          ∙ ⊎-elim (λ a. eqb-true _ _ a) (λ a. absurd (false≢true (sym (le-ltb _ _ late) ∙ a))) (or-cases _ _ e)
 
       word-sound : (j : ℕ) → j < s .count → Sound y m (word j)
       word-sound j l =

@@ -2,7 +2,7 @@
 use Prim.Native.Nat.{ℕ, _+_, _/_, _%_, _≤_, _<_, min}
 use mathlib.Core.Path.{_≡_, refl, sym, ap, ap₂, _∙_, subst}
 use mathlib.Core.Logic.{_⊎_, inl, inr}
-use mathlib.Core.Bool.{Bool, true, false, cond, not, _&&_, _||_}
+use mathlib.Core.Bool.{true≢false, Bool, true, false, cond, not, _&&_, _||_}
 use mathlib.Core.List.{List, [], _∷_}
 use native.Mathlib.Omega.{arith}
 use native.Mathlib.Decide.{decLt}
@@ -16,6 +16,7 @@ use Rattle.image.specs.declared.Layout.{Layout}
 use Rattle.image.specs.Layout.{layoutOf, pairsIn}
 use Rattle.image.specs.Content.{countIn}
 use Rattle.image.specs.Rules.{Good}
+use Rattle.frames.specs.declared.Command.{Command}
 use Rattle.frames.specs.declared.Heard.{Heard}
 use Rattle.frames.specs.declared.Heard.the-variants as heard
 use Rattle.frames.specs.Frames.{heardOf}
@@ -109,7 +110,14 @@ ends-whole s xs a b p q = go (decLt s (length xs))
 no-error : (e : Code) (b : Bool) → isError e && b ≡ false → b ≡ true → e ≡ code.Nothing
 no-error code.Nothing b p q = refl
 no-error (code.Error e) b p q =
-    absurd (let z : _≡_ {A = ℕ} (cond true 1 0) (cond false 1 0) = ap (λ (t : Bool). cond t 1 0) (sym q ∙ p) in omega arith)
+    absurd (true≢false (sym q ∙ p))
+
+-- two functions of what was heard, case by case
+heard-same : {A : Type 0} (f g : Heard → A) → f heard.Malformed ≡ g heard.Malformed → f heard.Nak ≡ g heard.Nak → ((c : Command) → f (heard.Said c) ≡ g (heard.Said c))
+    → (x : Heard) → f x ≡ g x
+heard-same f g p q r heard.Malformed = p
+heard-same f g p q r heard.Nak = q
+heard-same f g p q r (heard.Said c) = r c
 
 -- a frame
 module _ (v : Session) (m f : List ℕ) (bits fresh : ℕ) (room : List ℕ) (g : Good (layoutOf m) m) where
@@ -140,27 +148,19 @@ module _ (v : Session) (m f : List ℕ) (bits fresh : ℕ) (room : List ℕ) (g 
   module _ (a b : ℕ) where
     same-broken : (x : Heard) → broken (with-power a) x ≡ broken (with-power b) x
     unfolding with-power
-    same-broken heard.Malformed = refl
-    same-broken heard.Nak = refl
-    same-broken (heard.Said c) = refl
+    same-broken = heard-same (broken (with-power a)) (broken (with-power b)) refl refl (λ c. refl)
 
     same-code : (x : Heard) → errorCode (with-power a) x ≡ errorCode (with-power b) x
     unfolding with-power
-    same-code heard.Malformed = refl
-    same-code heard.Nak = refl
-    same-code (heard.Said c) = refl
+    same-code = heard-same (errorCode (with-power a)) (errorCode (with-power b)) refl refl (λ c. refl)
 
     same-done : (x : Heard) → doneReply (with-power a) x ≡ doneReply (with-power b) x
     unfolding with-power
-    same-done heard.Malformed = refl
-    same-done heard.Nak = refl
-    same-done (heard.Said c) = refl
+    same-done = heard-same (doneReply (with-power a)) (doneReply (with-power b)) refl refl (λ c. refl)
 
     same-words : (x : Heard) → doneWords (with-power a) x ≡ doneWords (with-power b) x
     unfolding with-power
-    same-words heard.Malformed = refl
-    same-words heard.Nak = refl
-    same-words (heard.Said c) = refl
+    same-words = heard-same (doneWords (with-power a)) (doneWords (with-power b)) refl refl (λ c. refl)
 
     same-reply : replyOf (with-power a) ≡ replyOf (with-power b)
     unfolding with-power

@@ -25,7 +25,7 @@ use Rattle.tag.specs.Result.{Result}
 use Rattle.tag.specs.Port.{badCount, transferred, refusals, readOf}
 use Rattle.demands.specs.Calls.{Call, powerUp, admit, frame, ask, release, register, read, write, Tag, answerOf, imageAfter, run}
 use Rattle.demands.specs.Demands.{Storing, byRadio, byPort, told, Kept, AnyRun}
-use Rattle.demands.proofs.Sound.{Keeps, Sound}
+use Rattle.demands.proofs.Sound.{Keeps, Sound, free-keeps}
 use Rattle.demands.proofs.Plans.{Plan, no-plan, plan-change}
 use Rattle.demands.proofs.Rows.{Refused, Acting, wordsOf, acts, first-each}
 use Rattle.demands.proofs.Cuts.{power-image}
@@ -94,14 +94,7 @@ power-below y m =
 -- EPC word 0 is free, and a word that stays keeps everything
 module _ (y : Layout) (m : List ℕ) (g : Header y m) where
   epc-keeps : (v : ℕ) → Keeps y m (y .epc .at) v
-  epc-keeps v =
-      record {
-        header = λ l. absurd (omega arith);
-        tid = λ l n. absurd (omega arith);
-        locks = λ q k l e. absurd (omega arith);
-        blocks = λ l n t e. absurd (omega arith);
-        words = λ l n e. absurd (omega arith);
-      }
+  epc-keeps v = free-keeps y m g (y .epc .at) v (omega arith) (omega arith)
 
   stays-keeps : (i v : ℕ) → v ≡ wordAt m i → Keeps y m i v
   stays-keeps i v e =

@@ -1,7 +1,7 @@
 -- The words that commands and SPI writes store: where they go, that they may stand there, and what they keep. Assumes nothing.
 use Prim.Native.Nat.{ℕ, zero, suc, _+_, _-_, _*_, _/_, _%_, _^_, _≤_, _<_}
-use mathlib.Core.Path.{_≡_, refl, ap, subst}
-use mathlib.Core.Bool.{Bool, true, false, cond, _&&_}
+use mathlib.Core.Path.{_≡_, refl, subst}
+use mathlib.Core.Bool.{false≢true, Bool, true, false, _&&_}
 use mathlib.Core.List.{List}
 use native.Mathlib.Nat.{mod-one}
 use native.Mathlib.Omega.{arith}
@@ -41,20 +41,24 @@ module _ (y : Layout) (m : List ℕ) (g : Header y m) where
   before-perma : (i v : ℕ) → i < y .perma .at → i + 1 ≡ end (y .perma) → v % 2 ^ spareIn y ≡ 0
   before-perma i v l q = let z : spareIn y ≡ 0 = omega (arith, size) in rw z (mod-one v)
 
+  -- past the lock word and before TID nothing is to be kept
+  pub free-keeps : (i v : ℕ) → y .status .at < i → i < y .tid .at → Keeps y m i v
+  free-keeps i v a b =
+      record {
+        header = λ l. absurd (omega arith);
+        tid = λ l n. absurd (omega arith);
+        locks = λ q k l e. absurd (omega arith);
+        blocks = λ l n t e. absurd (omega arith);
+        words = λ l n e. absurd (omega arith);
+      }
+
   -- a word of RESERVED
   reserved-sound : (i v : ℕ) → y .reserved .at ≤ i → i < end (y .reserved) → Sound y m (store i v)
   reserved-sound i v a b =
       record {
         goes = go-low y m g i (omega arith) (omega arith);
         ok = ok-if y i v (λ q. absurd (omega arith)) (λ q. absurd (omega arith)) (λ q. absurd (omega arith)) (λ q. absurd (omega arith));
-        keeps =
-            record {
-              header = λ l. absurd (omega arith);
-              tid = λ l n. absurd (omega arith);
-              locks = λ q k l e. absurd (omega arith);
-              blocks = λ l n t e. absurd (omega arith);
-              words = λ l n e. absurd (omega arith);
-            };
+        keeps = free-keeps i v (omega arith) (omega arith);
       }
 
   -- a word of EPC; where it is the PC, its length fits
@@ -63,14 +67,7 @@ module _ (y : Layout) (m : List ℕ) (g : Header y m) where
       record {
         goes = go-low y m g i (omega arith) (omega arith);
         ok = ok-if y i v (λ q. absurd (omega arith)) (λ q. absurd (omega arith)) pc (before-perma i v (omega arith));
-        keeps =
-            record {
-              header = λ l. absurd (omega arith);
-              tid = λ l n. absurd (omega arith);
-              locks = λ q k l e. absurd (omega arith);
-              blocks = λ l n t e. absurd (omega arith);
-              words = λ l n e. absurd (omega arith);
-            };
+        keeps = free-keeps i v (omega arith) (omega arith);
       }
 
   -- a word of USER in a block that is not permalocked
@@ -118,14 +115,7 @@ module _ (y : Layout) (m : List ℕ) (g : Header y m) where
       record {
         goes = go-low y m g (y .status .at + 1) (omega arith) (omega arith);
         ok = ok-if y (y .status .at + 1) 1 (λ q. absurd (omega arith)) (λ q. omega arith) (λ q. absurd (omega arith)) (λ q. absurd (omega arith));
-        keeps =
-            record {
-              header = λ l. absurd (omega arith);
-              tid = λ l n. absurd (omega arith);
-              locks = λ q k l e. absurd (omega arith);
-              blocks = λ l n t e. absurd (omega arith);
-              words = λ l n e. absurd (omega arith);
-            };
+        keeps = free-keeps (y .status .at + 1) 1 (omega arith) (omega arith);
       }
 
   -- a word of PERMA with bits added, none of them of a block that doesn't exist
@@ -164,11 +154,8 @@ module _ (y : Layout) (m : List ℕ) (g : Header y m) where
   bank-sound q (suc zero) i v s l e pc = epc-sound (y .epc .at + i) v (omega arith) (omega arith) (λ z. pc refl (omega arith))
   bank-sound q (suc (suc zero)) i v s l e pc = absurd (tid-closed (opens q (wordAt m (y .status .at)) (pairOf 2 i)) (blockOpen y m i) e)
     where
-      never : false ≡ true → ⊥
-      never e = let z : _≡_ {A = ℕ} (cond false 1 0) (cond true 1 0) = ap (λ (t : Bool). cond t 1 0) e in omega arith
-
       tid-closed : (a o : Bool) → a && false && true && true ≡ true → ⊥
-      tid-closed true o e = never e
-      tid-closed false o e = never e
+      tid-closed true o e = false≢true e
+      tid-closed false o e = false≢true e
   bank-sound q (suc (suc (suc zero))) i v s l e pc = user-sound i v l (and-right (opens q (wordAt m (y .status .at)) (pairOf 3 i) && true && true) (blockOpen y m i) e)
   bank-sound q (suc (suc (suc (suc b)))) i v s l e pc = absurd (omega arith)

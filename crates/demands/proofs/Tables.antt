@@ -2,7 +2,7 @@
 use Prim.Native.Nat.{ℕ, _*_, _/_, _≤_}
 use mathlib.Core.Path.{_≡_, refl, sym, ap, _∙_}
 use mathlib.Core.Logic.{⊎-elim}
-use mathlib.Core.Bool.{Bool, true, false, cond, not, _&&_, _||_}
+use mathlib.Core.Bool.{false≢true, Bool, true, false, cond, not, _&&_, _||_}
 use mathlib.Core.List.{List, [], _∷_, _++_}
 use native.Mathlib.Omega.{arith}
 use lib.Dec.{eqb, leb, ltb, lit≤}
@@ -36,9 +36,6 @@ use Rattle.demands.specs.Calls.{Call, powerUp, admit, frame, ask, releas
 use Rattle.demands.specs.Demands.{refuses, Tabled, Demand1}
 use Rattle.demands.proofs.Rows.{Each, first-each}
 
-never : false ≡ true → ⊥
-never e = let z : _≡_ {A = ℕ} (cond false 1 0) (cond true 1 0) = ap (λ (t : Bool). cond t 1 0) e in omega arith
-
 refusal-small : (n : ℕ) → refuses n ≡ true → n ≤ 13
 refusal-small n e =
     ⊎-elim (λ a. omega (arith, leb-true n 9 (and-right (leb 1 n) (leb n 9) a))) (λ a. omega (arith, eqb-true n 13 a)) (or-cases (within 1 9 n) (eqb n 13) e)
@@ -58,9 +55,9 @@ module _ (t : Tag) (c : Call) where
       record {
         listed = refusal-small n e;
         refused = λ q. refl;
-        error = λ q. absurd (never (sym (ap refuses q) ∙ e));
-        lost = λ q. absurd (never (sym (ap refuses q) ∙ e));
-        dropped = λ q. absurd (never (sym (ap refuses q) ∙ e));
+        error = λ q. absurd (false≢true (sym (ap refuses q) ∙ e));
+        lost = λ q. absurd (false≢true (sym (ap refuses q) ∙ e));
+        dropped = λ q. absurd (false≢true (sym (ap refuses q) ∙ e));
         silent = λ q. refl;
       }
 
@@ -68,7 +65,7 @@ module _ (t : Tag) (c : Call) where
   zero-answer r z s =
       record {
         listed = omega (arith, z);
-        refused = λ q. absurd (never (sym (ap refuses z) ∙ q));
+        refused = λ q. absurd (false≢true (sym (ap refuses z) ∙ q));
         error = λ q. absurd (omega (arith, z, q));
         lost = λ q. absurd (omega (arith, z, q));
         dropped = λ q. absurd (omega (arith, z, q));
@@ -79,7 +76,7 @@ module _ (t : Tag) (c : Call) where
   lost-answer =
       record {
         listed = lit≤ tt;
-        refused = λ q. absurd (never q);
+        refused = λ q. absurd (false≢true q);
         error = λ q. absurd (omega arith);
         lost = λ q. refl;
         dropped = λ q. absurd (omega arith);
@@ -99,7 +96,7 @@ module _ (v : Session) (m f : List ℕ) (bits fresh : ℕ) (room : List ℕ) (s 
 
   -- a code's reply is an error reply
   error-length : (e : Code) (b : Bool) (h : ℕ) (r : Reply) → isError e && b ≡ true → replyLength (replyOr e h r) ≡ 41
-  error-length code.Nothing b h r q = absurd (never q)
+  error-length code.Nothing b h r q = absurd (false≢true q)
   error-length (code.Error c) b h r q = refl
 
   error-row : isError (errorCode handed (said handed)) && fits (replyOf handed) room ≡ true → Tabled tag call (replied handed 10 (used (stateOf handed)) [])
@@ -107,7 +104,7 @@ module _ (v : Session) (m f : List ℕ) (bits fresh : ℕ) (room : List ℕ) (s 
   error-row e =
       record {
         listed = lit≤ tt;
-        refused = λ q. absurd (never q);
+        refused = λ q. absurd (false≢true q);
         error = λ q. (refl, refl, refl, error-length (errorCode handed (said handed)) (fits (replyOf handed) room) _ (doneReply handed (said handed)) e);
         lost = λ q. absurd (omega arith);
         dropped = λ q. absurd (omega arith);
@@ -119,7 +116,7 @@ module _ (v : Session) (m f : List ℕ) (bits fresh : ℕ) (room : List ℕ) (s 
   dropped-row =
       record {
         listed = lit≤ tt;
-        refused = λ q. absurd (never q);
+        refused = λ q. absurd (false≢true q);
         error = λ q. absurd (omega arith);
         lost = λ q. absurd (omega arith);
         dropped = λ q. refl;

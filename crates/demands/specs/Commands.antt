@@ -162,7 +162,6 @@ pub record Engine (y : Layout) (m : List ℕ) (st : State) (r : Register) : Type
   pub write : (at : ℕ) (d : List ℕ) (n s : ℕ) → isKilled st ≡ false → length d ≡ 2 * n → 1 ≤ n → n ≤ 255 → at + n ≤ y .user .words → n ≤ pairsIn y
       → let stores = changeStores (y .work .at) (writtenWords y m at d n) in length stores ≤ s
       → writeOf (on st true r) m at d s ≡ transferred 0 (on st true (withUnwritten (someUnwritten y m at n) r)) 0 (length stores) (after m stores) []
-
   -- when Killed: zeros, and nothing stored; bit 0 is set
   pub read-killed : (at n : ℕ) (room : List ℕ) → isKilled st ≡ true → 1 ≤ n → n ≤ 255 → at + n ≤ y .user .words → 2 * n ≤ length room
       → readOf (on st true r) m at n room ≡ transferred 0 (on st true (withKilled r)) (16 * n) 0 m (packed (replicate (16 * n) 0) room)
