@@ -42,6 +42,7 @@ use Rattle.tag.specs.Port.{badCount, badData, refusals, transferred, withKilled
 use Rattle.demands.specs.Calls.{Idle}
 use Rattle.demands.specs.Commands.{Air, linked, link, done, answer, Does, Radio, Engine, Demand2}
 use Rattle.demands.proofs.Rows.{Rows, None, none-first}
+use Rattle.demands.proofs.Cuts.{started-so}
 
 -- the frame that was heard as x comes to the last row
 module _ (a : Air) (st : State) (r : Register) (idle : Idle (layoutOf (a .image)) (a .image)) where
@@ -300,15 +301,15 @@ module _ (m : List ℕ) (st : State) (r : Register) (idle : Idle (layoutOf m) m)
       }
 
 pub demand-2 : Demand2
-demand-2 y r = (radio-at, engine-at)
+demand-2 = record { start = started-so; radio = radio-at; engine = engine-at }
   where
-    layout : (m : List ℕ) → Idle y m → y ≡ layoutOf m
-    layout m i = check-good m y (i .sound) .layout
+    layout : (y : Layout) (m : List ℕ) → Idle y m → y ≡ layoutOf m
+    layout y m i = check-good m y (i .sound) .layout
 
-    radio-at : (a : Air) → Idle y (a .image) → Radio y a r
-    radio-at a i =
-        let e = layout (a .image) i in
+    radio-at : (y : Layout) (a : Air) (r : Register) → Idle y (a .image) → Radio y a r
+    radio-at y a r i =
+        let e = layout y (a .image) i in
         subst (λ (z : Layout). Radio z a r) (sym e) (radio a r (subst (λ (z : Layout). Idle z (a .image)) e i))
 
-    engine-at : (m : List ℕ) (st : State) → Idle y m → Engine y m st r
-    engine-at m st i = let e = layout m i in subst (λ (z : Layout). Engine z m st r) (sym e) (engine m st r (subst (λ (z : Layout). Idle z m) e i))
+    engine-at : (y : Layout) (m : List ℕ) (st : State) (r : Register) → Idle y m → Engine y m st r
+    engine-at y m st r i = let e = layout y m i in subst (λ (z : Layout). Engine z m st r) (sym e) (engine m st r (subst (λ (z : Layout). Idle z m) e i))

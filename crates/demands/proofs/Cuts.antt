@@ -9,21 +9,24 @@ use native.Mathlib.Decide.{decLt}
 use lib.Dec.{ltb}
 use lib.ListN.{length, take}
 use lib.Seq.{take-all}
-use borrow.Author.Tests.{lt-ltb, le-ltb, ne-eqb}
+use borrow.Author.Tests.{lt-ltb, le-ltb, eq-eqb, ne-eqb}
 use Rattle.bits.specs.Words.{wordAt, Store, after}
 use Rattle.image.specs.declared.Layout.{Layout}
 use Rattle.image.specs.Layout.{layoutOf}
-use Rattle.image.specs.Check.{good}
+use Rattle.image.specs.Content.{countIn, pending}
+use Rattle.image.specs.Check.{checkOf, good}
 use Rattle.image.specs.Rules.{Good}
 use Rattle.image.proofs.Answers.{check-good, good-check, check-0}
-use Rattle.stores.specs.Stores.{changeStores, powerStores, cutPowerUp, cutPowerUps, powerUp}
+use Rattle.stores.specs.Stores.{changeStores, epcCrc, powerStores, cutPowerUp, cutPowerUps, powerUp}
 use Rattle.stores.specs.Cuts.{cutImage, CutLaws}
-use Rattle.stores.proofs.Changes.{change-needs}
-use Rattle.stores.proofs.Cuts.{cuts, power-cut-good}
+use Rattle.stores.proofs.Changes.{change-needs, power-idle, power-some}
+use Rattle.stores.proofs.Sane.{crc-same, good-sane}
+use Rattle.stores.proofs.Cuts.{cuts, power-cut-good, power-word, power-settles}
 use Rattle.tag.specs.Session.{offSession, newSession}
 use Rattle.tag.specs.Result.{Result}
 use Rattle.tag.specs.Power.{poweredTo, firstIn, started, powerUpOf}
 use Rattle.demands.specs.Calls.{Tag, answerOf}
+use Rattle.demands.specs.Commands.{Start}
 use Rattle.demands.specs.Demands.{Storing, told, powerUps, Unbroken, Demand3}
 use Rattle.demands.proofs.Plans.{plan-change}
 use Rattle.demands.proofs.Rows.{Refused, Acting, wordsOf, acts}
@@ -67,6 +70,19 @@ module _ (y : Layout) (m : List ℕ) (g : Good y m) where
           (let z : _≡_ {A = ℕ} 11 0 = sym (ap (λ (t : Bool). cond t (lost s) made .number) (lt-ltb s (length stores) l)) ∙ sym (ap (λ (r : Result). r .number) (power-ends s)) ∙ e in
           omega arith)
       go (no l) = ap (λ (r : Result). r .image) (power-ends s) ∙ ap (λ (t : Bool). cond t (lost s) made .image) (le-ltb s (length stores) (omega arith))
+
+  pub power-done : (s : ℕ) → length (powerStores (layoutOf m) m) ≤ s
+      → powerUpOf m s ≡ poweredTo 0 (newSession (firstIn (layoutOf m) (powerUp m))) (length (powerStores (layoutOf m) m)) (powerUp m)
+  unfolding stores made
+  power-done s l = power-ends s ∙ ap (λ (t : Bool). cond t (lost s) made) (le-ltb s (length stores) l)
+
+  -- the pending words, at most 255, the count 0 and the CRC-16
+  pub power-needs : length (powerStores y m) ≤ 257
+  power-needs = go (decLt 0 (countIn y m))
+    where
+      go : Dec (0 < countIn y m) → length (powerStores y m) ≤ 257
+      go (yes l) = omega (arith, power-some y m (λ z. omega (arith, l, z)), g .content 0 .count, g .header .pairs-most)
+      go (no n) = let z : countIn y m ≡ 0 = omega arith in omega (arith, power-idle y m z)
 
   pub power-cut-fine : (s : ℕ) → Good y (cutPowerUp s m)
   power-cut-fine s = subst (λ (z : Layout). Good y (after m (take s (powerStores z m)))) (g .layout) (power-cut-good y m g s)
@@ -124,7 +140,11 @@ module _ (y : Layout) (t : Tag) (c : Storing) (n enough : ℕ) (g : Good y (t .i
             cut-word s ks j i p
             ∙ laws .new s ks (omega (arith, needs, words, l, r)) i b
             ∙ sym (cut-word enough [] k i q ∙ laws .new enough [] (omega (arith, needs, words, whole)) i b));
-        ready = good-check y _ (good-cut s ks);
+        starts = λ u l.
+            (let n = powerUps ks (answerOf t (told c s) .image) in
+            let few : length (powerStores (layoutOf n) n) ≤ u =
+            subst (λ (z : Layout). length (powerStores z n) ≤ u) (good-cut s ks .layout) (omega (arith, l, power-needs y n (good-cut s ks))) in
+            ap (λ (r : Result). r .number) (power-done y n (good-cut s ks) u few));
       }
 
 pub demand-3 : Demand3
@@ -136,3 +156,44 @@ demand-3 y t c n enough idle some e d s ks = go (acts y t c enough g)
     go : Refused (t .image) (answerOf t (told c enough)) ⊎ Acting y t c (wordsOf t c) → Unbroken y t c n enough s ks
     go (inl r) = absurd (omega (arith, e, r .1))
     go (inr a) = unbroken y t c n enough g (wordsOf t c) some a e d s ks
+
+-- a whole power-up, for any good image
+pub started-so : (y : Layout) (m : List ℕ) → checkOf m ≡ good y → Start y m (after m (powerStores y m))
+started-so y m e = subst (λ (z : Layout). Start z m (after m (powerStores z m))) (sym (k .layout)) here
+  where
+    k : Good y m
+    k = check-good m y e
+
+    z : Layout
+    z = layoutOf m
+
+    g : Good (layoutOf m) m
+    g = subst (λ (x : Layout). Good x m) (k .layout) k
+
+    n : List ℕ
+    n = after m (powerStores (layoutOf m) m)
+
+    whole : Good (layoutOf m) n
+    whole =
+        subst (λ (ss : List Store). Good (layoutOf m) (after m ss)) (take-all (length (powerStores (layoutOf m) m)) (powerStores (layoutOf m) m) (omega arith))
+        (power-cut-good (layoutOf m) m g (length (powerStores (layoutOf m) m)))
+
+    other : (i : ℕ) → i < layoutOf m .work .at → (i ≡ layoutOf m .epc .at → ⊥) → wordAt n i ≡ wordAt (after m (pending (layoutOf m) m)) i
+    other i l d =
+        power-word (layoutOf m) m g i l
+        ∙ ap (λ (b : Bool). cond b (epcCrc (layoutOf m) (after m (pending (layoutOf m) m))) (wordAt (after m (pending (layoutOf m) m)) i)) (ne-eqb i (layoutOf m .epc .at) d)
+
+    first : wordAt n (layoutOf m .epc .at) ≡ epcCrc (layoutOf m) (after m (pending (layoutOf m) m))
+    first =
+        power-word (layoutOf m) m g (layoutOf m .epc .at) (omega (arith, g .header))
+        ∙ ap (λ (b : Bool). cond b (epcCrc (layoutOf m) (after m (pending (layoutOf m) m))) (wordAt (after m (pending (layoutOf m) m)) (layoutOf m .epc .at))) (eq-eqb (layoutOf m .epc .at) (layoutOf m .epc .at) refl)
+
+    here : Start (layoutOf m) m n
+    here =
+        record {
+          up = λ s l. power-done (layoutOf m) m g s l;
+          enough = power-needs (layoutOf m) m g;
+          words = other;
+          settled = power-settles (layoutOf m) m g;
+          sum = first ∙ sym (crc-same (layoutOf m) n (whole .header) n (after m (pending (layoutOf m) m)) (good-sane (layoutOf m) n whole .words) (λ i l d. other i l d));
+        }

@@ -1,5 +1,5 @@
 -- Demand 1: each promise allows one outcome, and each answer leaves what the table says. Assumes nothing.
-use Prim.Native.Nat.{ℕ, _*_, _/_, _≤_}
+use Prim.Native.Nat.{ℕ, _*_, _/_, _≤_, _<_}
 use mathlib.Core.Path.{_≡_, refl, sym, ap, _∙_}
 use mathlib.Core.Logic.{⊎-elim}
 use mathlib.Core.Bool.{false≢true, Bool, true, false, cond, not, _&&_, _||_}
@@ -7,7 +7,7 @@ use mathlib.Core.List.{List, [], _∷_, _++_}
 use native.Mathlib.Omega.{arith}
 use lib.Dec.{eqb, leb, ltb, lit≤}
 use lib.ListN.{length, take}
-use borrow.Author.Tests.{eqb-true, leb-true}
+use borrow.Author.Tests.{eqb-true, leb-true, ltb-true}
 use Rattle.bits.specs.Words.{after}
 use Rattle.bits.specs.Bits.{wordsBits}
 use Rattle.bits.proofs.Below.{and-right, or-cases}
@@ -28,7 +28,7 @@ use Rattle.tag.specs.declared.Session.{Session}
 use Rattle.tag.specs.Session.{offSession, newSession}
 use Rattle.tag.specs.Result.{Result, leaves}
 use Rattle.tag.specs.One.{one-outcome}
-use Rattle.tag.specs.Commands.{isKilled, used}
+use Rattle.tag.specs.Commands.{linkOf, isKilled, used}
 use Rattle.tag.specs.Power.{poweredTo, firstIn, started, powerUpOf}
 use Rattle.tag.specs.Table.{Input, input, said, stateOf, liveOf, isOff, isArbitrate, isError, errorCode, doneReply, newState, replyOr, replyOf, fits, storesOf, movedTo, dropped, replied, rows, frameOf, answered, admitOf}
 use Rattle.tag.specs.Port.{isLinked, heldTo, told, askOf, releaseOf, registerOf, badCount, badData, readBits, portWords, someUnwritten, registerTo, withKilled, withUnwritten, transferred, refusals, readOf, writeOf}
@@ -72,13 +72,14 @@ module _ (t : Tag) (c : Call) where
         silent = s;
       }
 
-  lost-answer : Tabled t c (record { number = 11; session = offSession; reply = 0; stores = powerIn c; value = 0; image = after (imageIn t c) (take (powerIn c) (storesIn t c)); room = roomIn c })
-  lost-answer =
+  lost-answer : powerIn c < length (storesIn t c)
+      → Tabled t c (record { number = 11; session = offSession; reply = 0; stores = powerIn c; value = 0; image = after (imageIn t c) (take (powerIn c) (storesIn t c)); room = roomIn c })
+  lost-answer l =
       record {
         listed = lit≤ tt;
         refused = λ q. absurd (false≢true q);
         error = λ q. absurd (omega arith);
-        lost = λ q. refl;
+        lost = λ q. (l, refl);
         dropped = λ q. absurd (omega arith);
         silent = λ q. refl;
       }
@@ -94,18 +95,26 @@ module _ (v : Session) (m f : List ℕ) (bits fresh : ℕ) (room : List ℕ) (s 
   handed : Input
   handed = input v m f bits fresh room s
 
-  -- a code's reply is an error reply
+  -- a code's reply is an error reply, whatever the reply without it
   error-length : (e : Code) (b : Bool) (h : ℕ) (r : Reply) → isError e && b ≡ true → replyLength (replyOr e h r) ≡ 41
   error-length code.Nothing b h r q = absurd (false≢true q)
   error-length (code.Error c) b h r q = refl
 
+  error-same : (e : Code) (b : Bool) (h : ℕ) (r : Reply) → isError e && b ≡ true → replyOr e h r ≡ replyOr e h reply.Silence
+  error-same code.Nothing b h r q = absurd (false≢true q)
+  error-same (code.Error c) b h r q = refl
+
   error-row : isError (errorCode handed (said handed)) && fits (replyOf handed) room ≡ true → Tabled tag call (replied handed 10 (used (stateOf handed)) [])
   unfolding tag call handed
   error-row e =
+      let c = errorCode handed (said handed) in
+      let b = fits (replyOf handed) room in
+      let d = doneReply handed (said handed) in
+      let h = linkOf (stateOf handed) .handle in
       record {
         listed = lit≤ tt;
         refused = λ q. absurd (false≢true q);
-        error = λ q. (refl, refl, refl, error-length (errorCode handed (said handed)) (fits (replyOf handed) room) _ (doneReply handed (said handed)) e);
+        error = λ q. (refl, refl, refl, error-length c b h d e, ap (λ (x : Reply). packed (replyBits m x) room) (error-same c b h d e));
         lost = λ q. absurd (omega arith);
         dropped = λ q. absurd (omega arith);
         silent = silence m room (replyOf handed);
@@ -141,7 +150,7 @@ module _ (v : Session) (m f : List ℕ) (bits fresh : ℕ) (room : List ℕ) (s 
                 λ e. refusal tag call 8 refl,
                 (
                   λ e. refusal tag call 9 refl,
-                  (λ e. dropped-row, (error-row, (λ e. refusal tag call 4 refl, (λ e. lost-answer tag call, tt)))),
+                  (λ e. dropped-row, (error-row, (λ e. refusal tag call 4 refl, (λ e. lost-answer tag call (ltb-true _ _ e), tt)))),
                 ),
               ),
             ),
@@ -188,7 +197,7 @@ module _ (v : Session) (m : List ℕ) where
       first-each (Tabled tag-of c)
       (refusals v m [] (badData y at d) ++ ((transferred 11 offSession 0 s (after m (take s stores)) [], ltb s (length stores)) ∷ []))
       (transferred 0 (registerTo l (cond killed (withKilled (l .register)) (withUnwritten (someUnwritten y m at (length d / 2)) (l .register)))) 0 (length stores) (after m stores) [])
-      (λ e. refusal tag-of c 1 refl, (λ e. refusal tag-of c 2 refl, (λ e. refusal tag-of c 3 refl, (λ e. refusal tag-of c 5 refl, (λ e. refusal tag-of c 6 refl, (λ e. refusal tag-of c 13 refl, (λ e. lost-answer tag-of c, tt)))))))
+      (λ e. refusal tag-of c 1 refl, (λ e. refusal tag-of c 2 refl, (λ e. refusal tag-of c 3 refl, (λ e. refusal tag-of c 5 refl, (λ e. refusal tag-of c 6 refl, (λ e. refusal tag-of c 13 refl, (λ e. lost-answer tag-of c (ltb-true _ _ e), tt)))))))
       (zero-answer tag-of c _ refl (λ q. refl))
 
 -- calls without an image, and power-up
@@ -237,7 +246,7 @@ module _ (t : Tag) where
       ((poweredTo 1 offSession 0 m, short m) ∷ (poweredTo 2 offSession 0 m, headerWrong m) ∷ (poweredTo 3 offSession 0 m, contentBroken m)
       ∷ (poweredTo 11 offSession s (after m (take s stores)), ltb s (length stores)) ∷ [])
       (poweredTo 0 (newSession (firstIn (layoutOf m) (after m stores))) (length stores) (after m stores))
-      (λ e. refusal t c 1 refl, (λ e. refusal t c 2 refl, (λ e. refusal t c 3 refl, (λ e. lost-answer t c, tt)))) (zero-answer t c _ refl (λ q. refl))
+      (λ e. refusal t c 1 refl, (λ e. refusal t c 2 refl, (λ e. refusal t c 3 refl, (λ e. lost-answer t c (ltb-true _ _ e), tt)))) (zero-answer t c _ refl (λ q. refl))
 
 tabled : (t : Tag) (c : Call) → Tabled t c (answerOf t c)
 unfolding tag call handed tag-of

@@ -7,6 +7,9 @@ use Rattle.image.specs.declared.Layout.{Layout}
 use Rattle.image.specs.Layout.{layoutOf}
 use Rattle.image.specs.Content.{countIn}
 use Rattle.image.specs.Check.{checkOf, good}
+use Rattle.frames.specs.Frames.{heardOf}
+use Rattle.rights.specs.declared.Code.{Code}
+use Rattle.rights.specs.declared.Code.the-variants as code
 use Rattle.stores.specs.Stores.{changeStores, powerStores}
 use Rattle.tag.specs.declared.Session.{Session}
 use Rattle.tag.specs.declared.Outcome.{Outcome}
@@ -14,7 +17,7 @@ use Rattle.tag.specs.Session.{offSession}
 use Rattle.tag.specs.Result.{Result, result}
 use Rattle.tag.specs.Commands.{isKilled}
 use Rattle.tag.specs.Power.{powerUpOf}
-use Rattle.tag.specs.Table.{input, liveOf, storesOf, frameOf, admitOf}
+use Rattle.tag.specs.Table.{input, liveOf, errorCode, storesOf, frameOf, admitOf}
 use Rattle.tag.specs.Port.{askOf, releaseOf, registerOf, readOf, portWords, writeOf}
 
 -- what a caller hands over beside the session and the image: a power-up's s; an admission's number; a frame's bytes, bit count, fresh word, room and s;
@@ -102,6 +105,17 @@ storesIn t (read at count room) = []
 storesIn t (write at d s) =
     let y = layoutOf (t .image) in
     changeStores (y .work .at) (portWords y (t .image) (isKilled (liveOf (t .session .power) .state)) at d)
+
+-- the error code of a frame's command
+abbrev pub codeIn : Tag → Call → Code
+codeIn t (powerUp s) = code.Nothing
+codeIn t (admit n) = code.Nothing
+codeIn t (frame f bits fresh room s) = errorCode (input (t .session) (t .image) f bits fresh room s) (heardOf f bits)
+codeIn t ask = code.Nothing
+codeIn t release = code.Nothing
+codeIn t register = code.Nothing
+codeIn t (read at count room) = code.Nothing
+codeIn t (write at d s) = code.Nothing
 
 -- the image after a call: it stays where the call has none
 abbrev pub imageAfter : Tag → Call → List ℕ

@@ -1,6 +1,6 @@
 -- DEMAND 2, command by command: for a good image with nothing pending, a session that the command is for, room and power enough: the reply's bits,
 -- the session and the words stored (RULES D2, 3.9 to 3.22 and 4). Its proof: `demand-2` in proofs/Commands. Assumes nothing.
-use Prim.Native.Nat.{ℕ, _+_, _-_, _*_, _≤_}
+use Prim.Native.Nat.{ℕ, _+_, _-_, _*_, _≤_, _<_}
 use mathlib.Core.Path.{_≡_}
 use mathlib.Core.Bool.{Bool, true, false, cond, _&&_}
 use mathlib.Core.List.{List, [], _∷_}
@@ -10,9 +10,11 @@ use lib.ListN.{length, replicate}
 use Rattle.bits.specs.Words.{wordAt, Store, store, after}
 use Rattle.bits.specs.Bits.{fieldAt, wordsBits}
 use Rattle.bits.specs.Below.{below}
+use Rattle.crc.specs.Crc.{crcOf}
 use Rattle.image.specs.declared.Layout.{Layout}
 use Rattle.image.specs.Layout.{pairsIn}
-use Rattle.image.specs.Content.{lockWord}
+use Rattle.image.specs.Content.{lockWord, killedWord, lengthOf, pcWord, countIn, pending}
+use Rattle.image.specs.Check.{checkOf, good}
 use Rattle.frames.specs.declared.Order.{Order}
 use Rattle.frames.specs.declared.Order.the-variants as order
 use Rattle.frames.specs.declared.Heard.the-variants as heard
@@ -23,7 +25,7 @@ use Rattle.replies.specs.Replies.{replyBits, replyLength, replyBytes}
 use Rattle.replies.specs.Pack.{packed}
 use Rattle.rights.specs.declared.Code.the-variants as code
 use Rattle.rights.specs.Rights.{bankOf, spanWords, readCode, writeCode, lockedTo, lockCode, permaReadCode, permaCode}
-use Rattle.stores.specs.Stores.{changeStores}
+use Rattle.stores.specs.Stores.{changeStores, powerStores}
 use Rattle.tag.specs.declared.Cover.{Cover}
 use Rattle.tag.specs.declared.Cover.the-variants as cover
 use Rattle.tag.specs.declared.Half.{Half}
@@ -35,6 +37,7 @@ use Rattle.tag.specs.declared.State.the-variants as state
 use Rattle.tag.specs.Session.{on, clear}
 use Rattle.tag.specs.Result.{Result, leaves}
 use Rattle.tag.specs.Commands.{accessWord, killWord, isKilled}
+use Rattle.tag.specs.Power.{poweredTo, powerUpOf}
 use Rattle.tag.specs.Table.{input, frameOf, answered, admitOf}
 use Rattle.tag.specs.Port.{isLinked, numberIn, writtenWords, someUnwritten, transferred, askOf, releaseOf, registerOf, readOf, writeOf, withUnwritten, withKilled}
 use Rattle.demands.specs.Calls.{Idle}
@@ -168,6 +171,18 @@ pub record Engine (y : Layout) (m : List ℕ) (st : State) (r : Register) : Type
   pub write-killed : (at : ℕ) (d : List ℕ) (n s : ℕ) → isKilled st ≡ true → length d ≡ 2 * n → 1 ≤ n → n ≤ 255 → at + n ≤ y .user .words → n ≤ pairsIn y
       → writeOf (on st true r) m at d s ≡ leaves 0 (on st true (withKilled r)) m []
 
-abbrev pub Demand2 : Type 0
-Demand2 = (y : Layout) (r : Register)
-    → ((a : Air) → Idle y (a .image) → Radio y a r) × ((m : List ℕ) (st : State) → Idle y m → Engine y m st r)
+-- power-up of a good image, whatever is pending; n is the image afterwards
+pub record Start (y : Layout) (m n : List ℕ) : Type 0 where
+  -- with power enough, and 257 stores always are: Killed if the image says so, else Arbitrate; port free, register 0
+  pub up : (s : ℕ) → length (powerStores y m) ≤ s
+      → powerUpOf m s ≡ poweredTo 0 (on (cond (eqb (killedWord y n) 0) state.Arbitrate state.Killed) false clear) (length (powerStores y m)) n
+  pub enough : length (powerStores y m) ≤ 257
+  -- the pending words are stored and nothing is pending; EPC word 0 is the CRC-16 over the PC and the L words after it
+  pub words : (i : ℕ) → i < y .work .at → (i ≡ y .epc .at → ⊥) → wordAt n i ≡ wordAt (after m (pending y m)) i
+  pub settled : countIn y n ≡ 0
+  pub sum : wordAt n (y .epc .at) ≡ crcOf (wordsBits n (y .epc .at + 1) (lengthOf (pcWord y n) + 1))
+
+pub record Demand2 : Type 0 where
+  pub start : (y : Layout) (m : List ℕ) → checkOf m ≡ good y → Start y m (after m (powerStores y m))
+  pub radio : (y : Layout) (a : Air) (r : Register) → Idle y (a .image) → Radio y a r
+  pub engine : (y : Layout) (m : List ℕ) (st : State) (r : Register) → Idle y m → Engine y m st r

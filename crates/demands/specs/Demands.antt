@@ -4,23 +4,26 @@ use mathlib.Core.Path.{_≡_}
 use mathlib.Core.Bool.{Bool, true, _||_}
 use mathlib.Core.List.{List, [], _∷_, _++_}
 use lib.Dec.{eqb}
-use lib.ListN.{take}
+use lib.ListN.{length, take}
 use Rattle.bits.specs.Words.{wordAt, after}
 use Rattle.image.specs.declared.Layout.{Layout}
 use Rattle.image.specs.Layout.{end, blocksIn, within}
 use Rattle.image.specs.Content.{lockWord, permalock}
 use Rattle.image.specs.declared.Fit.{Fit}
 use Rattle.image.specs.Check.{checkOf, meaning, good}
+use Rattle.replies.specs.declared.Reply.the-variants as reply
+use Rattle.replies.specs.Replies.{replyBits}
+use Rattle.replies.specs.Pack.{packed}
 use Rattle.rights.specs.Rights.{permaBit}
 use Rattle.tag.specs.declared.State.the-variants as state
 use Rattle.tag.specs.declared.Session.{Session}
 use Rattle.tag.specs.declared.Outcome.{Outcome}
 use Rattle.tag.specs.Session.{offSession}
 use Rattle.tag.specs.Result.{Result, leaves}
-use Rattle.tag.specs.Commands.{used}
-use Rattle.tag.specs.Table.{liveOf, movedTo}
+use Rattle.tag.specs.Commands.{linkOf, used}
+use Rattle.tag.specs.Table.{liveOf, replyOr, movedTo}
 use Rattle.tag.specs.Power.{powerUpOf}
-use Rattle.demands.specs.Calls.{Call, frame, write, Tag, answerOf, Meets, sessionIn, imageIn, roomIn, powerIn, storesIn, run, Idle}
+use Rattle.demands.specs.Calls.{Call, frame, write, Tag, answerOf, Meets, sessionIn, imageIn, roomIn, powerIn, storesIn, codeIn, run, Idle}
 
 -- DEMAND 1. Every image, frame and SPI transaction that can be handed over gets one answer of the table; a refusal leaves what the table says.
 
@@ -28,15 +31,22 @@ use Rattle.demands.specs.Calls.{Call, frame, write, Tag, answerOf, Meets
 abbrev pub refuses : ℕ → Bool
 refuses n = within 1 9 n || eqb n 13
 
--- number by number: 1 to 9 and 13 leave everything; 10 gives an error reply, of 41 bits, leaves the image and uses up the cover number; 11 leaves the first s stores, Off and no reply;
+-- number by number: 1 to 9 and 13 leave everything; 10 gives the error reply of its code, leaves the image and uses up the cover number; 11 comes where
+-- the power lasts for fewer stores than are needed, and leaves the first s of them, Off and no reply;
 -- 12 leaves the image, Arbitrate and no reply; and an answer without a reply changes no byte of the room
 pub record Tabled (t : Tag) (c : Call) (r : Result) : Type 0 where
   pub listed : r .number ≤ 13
   pub refused : refuses (r .number) ≡ true → r ≡ leaves (r .number) (sessionIn t c) (imageIn t c) (roomIn c)
   pub error : r .number ≡ 10
-      → (r .image ≡ imageIn t c) × (r .stores ≡ 0) × (let l = liveOf (t .session .power) in r .session ≡ movedTo l (used (l .state))) × (r .reply ≡ 41)
+      → let l = liveOf (t .session .power) in
+      (r .image ≡ imageIn t c)
+      × (r .stores ≡ 0)
+      × (r .session ≡ movedTo l (used (l .state)))
+      × (r .reply ≡ 41)
+      × (r .room ≡ packed (replyBits (t .image) (replyOr (codeIn t c) (linkOf (l .state) .handle) reply.Silence)) (roomIn c))
   pub lost : r .number ≡ 11
-      → r ≡ record { number = 11; session = offSession; reply = 0; stores = powerIn c; value = 0; image = after (imageIn t c) (take (powerIn c) (storesIn t c)); room = roomIn c }
+      → (powerIn c < length (storesIn t c))
+      × (r ≡ record { number = 11; session = offSession; reply = 0; stores = powerIn c; value = 0; image = after (imageIn t c) (take (powerIn c) (storesIn t c)); room = roomIn c })
   pub dropped : r .number ≡ 12 → r ≡ leaves 12 (movedTo (liveOf (t .session .power)) state.Arbitrate) (imageIn t c) (roomIn c)
   pub silent : r .reply ≡ 0 → r .room ≡ roomIn c
 
@@ -75,7 +85,7 @@ SameOnce y m n =
 pub record Unbroken (y : Layout) (t : Tag) (c : Storing) (n enough s : ℕ) (ks : List ℕ) : Type 0 where
   pub old : answerOf t (told c s) .stores ≤ 2 * n → SameOnce y (powerUps ks (answerOf t (told c s) .image)) (t .image)
   pub new : 2 * n < answerOf t (told c s) .stores → SameOnce y (powerUps ks (answerOf t (told c s) .image)) (answerOf t (told c enough) .image)
-  pub ready : checkOf (powerUps ks (answerOf t (told c s) .image)) ≡ good y
+  pub starts : (u : ℕ) → 257 ≤ u → powerUpOf (powerUps ks (answerOf t (told c s) .image)) u .number ≡ 0
 
 abbrev pub Demand3 : Type 0
 Demand3 =

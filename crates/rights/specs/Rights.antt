@@ -38,7 +38,7 @@ permaBit lock k = lock / 2 ^ (8 - 2 * k) % 2
 
 -- 3.18: 00 and 01 are open in Open and Secured, 10 in Secured, 11 never
 abbrev pub opens : Bool → ℕ → ℕ → Bool
-opens secured lock k = eqb (pwdBit lock k) 0 || secured && eqb (permaBit lock k) 0
+opens secured lock k = eqb (pwdBit lock k) 0 || (secured && eqb (permaBit lock k) 0)
 
 -- the pair that rules over word i of bank b
 abbrev pub pairOf : ℕ → ℕ → ℕ

@@ -358,6 +358,11 @@ power-cut-pending y m g k = power-pending y m g m k (good-sane y m g)
 pub power-cut-good : (y : Layout) (m : List ℕ) → Good y m → (k : ℕ) → Good y (after m (take k (powerStores y m)))
 power-cut-good y m g k = sane-good y m (after m (take k (powerStores y m))) g (cut-follows y m g m k (good-sane y m g) .0)
 
+-- a word after a whole power-up: EPC word 0 is the CRC-16, the others are those of the pending words stored
+pub power-word : (y : Layout) (m : List ℕ) → Good y m → (i : ℕ) → i < y .work .at
+    → wordAt (after m (powerStores y m)) i ≡ cond (eqb i (y .epc .at)) (epcCrc y (settled y m)) (wordAt (settled y m) i)
+power-word y m g i l = power-up-word y m g m (good-sane y m g) i l
+
 pub power-settles : (y : Layout) (m : List ℕ) → Good y m → countIn y (after m (powerStores y m)) ≡ 0
 unfolding powerStores sum
 power-settles y m g = sum-clears y m g m 1 (good-sane y m g)

@@ -86,7 +86,7 @@ uncovered (cover.Number n) w = bitXor w n
 abbrev pub wrongCommand : State → Command → Bool
 wrongCommand st c =
     let a = asksOf (c .order) in
-    not (hears st a (c .number)) || a .cover && not (isCovered (linkOf st .cover)) || a .bad
+    not (hears st a (c .number)) || (a .cover && not (isCovered (linkOf st .cover))) || a .bad
 
 abbrev pub isKilled : State → Bool
 isKilled state.Arbitrate = false
