@@ -1,6 +1,7 @@
 -- The steps that every walk of a wrapper over a lent session has in common. Each holds in any context Γ.
 --     s-vals, o-vals       how a session's and an outcome's machine values are spelled
 --     s-typed, o-typed     they have their MIR types.        inner     an outcome's session is one.        s-owned     what a session owns is had for nothing
+--     taken                the lent session is opened
 --     begun                the wrapper's first statement: the lent session is opened, and copied to the local that the call takes
 --     relent               a `&mut` slice of bytes is lent on: its place and its count go to a local that the call takes
 --     settled              what follows the call: its outcome stands in a local, its session goes behind the reference, the whole of it to the result, and the borrow is closed at the new session
@@ -17,7 +18,7 @@ use base.Stored.{Gv}
 use base.Fml.{GName, Lft, Share, Fml, fat, froom, flft, fobs, fauth, fbor, fobor}
 use prog.Wp.{Heap, Env, Spot, spotOf, Calls, Loops}
 use ghost.Atoms.{Atoms}
-use types.Kit.{Goal, Post, runs, lands, Step, step, Seq, Given, Item, ‵, _$_, move, drop, rewrite}
+use types.Kit.{Goal, Soaks, Post, runs, lands, Step, step, Seq, Given, Item, ‵, _$_, move, drop, rewrite}
 use types.Run.{Walks, Finds, from, stop, hop, fld, load, addr, and-then, no-more, look, look-raw, init, store-raw, of-opd, assigns, land}
 use types.Part.{agg, whole, sub, look-in}
 use types.SemTy.{Body}
@@ -82,6 +83,13 @@ borrowed κ b o γ = fbor κ (Body (mem T.the-row) b o γ)
 abbrev pub seen : GName → Session → Fml
 seen γ s = fobs γ (T.the-row .coded .code s)
 
+module _ {M : Type 1} {𝓤 : URA M} {H : Heap 𝓤} {A : Atoms 𝓤} {K : Type 0} {W : Given 𝓤 H A} {Γ : List (Item 𝓤)} {G : Goal 𝓤 H} where
+  pub taken : K → Soaks G → {κ : Lft} {p : Share} {γ : GName} (h : Session) (b o : ℕ)
+      → (Is T.the-row h (s-vals h) → Seq K W (‵ (behind h b o) ∷ ‵ (opened κ p b o γ) ∷ ‵ (seen γ h) ∷ ‵ (fauth γ (T.the-row .coded .code h)) ∷ Γ) G) → Seq K W (‵ (seen γ h) ∷ ‵ (borrowed κ b o γ) ∷ ‵ (flft κ p) ∷ Γ) G
+  taken t z h b o k =
+      opens t z T.the-row {h = h} b o (λ vs. spelt t T.the-row (Is T.the-row) (shows 𝓤 H A T.the-row) s-vals (LL.tells T.the-type T′.the-laws) fullShare h vs b o $
+      move t (1 ∷ []) $ peeks t T.the-row (Is T.the-row) (shows 𝓤 H A T.the-row) h (s-vals h) (λ was. drop t $ k was))
+
 module _ {M : Type 1} {𝓤 : URA M} {H : Heap 𝓤} {A : Atoms 𝓤} {K : Type 0} {W : Given 𝓤 H A} {Γ : List (Item 𝓤)} where
   -- a place of a local whose cell is known
   at-local : K → {E : Env 𝓤 H} {i : ℕ} {st : List Way} {sp sp′ : Spot 𝓤 H} → spotOf 𝓤 H E i ≡ sp → Walks K W Γ E sp st sp′ → Finds K W Γ E (place i st) sp′
@@ -97,9 +105,7 @@ module _ {M : Type 1} {𝓤 : URA M} {H : Heap 𝓤} {A : Atoms 𝓤} {K : Type 
       → (Is T.the-row h (s-vals h) → Seq K W (‵ (behind h b o) ∷ ‵ (opened κ p b o γ) ∷ ‵ (seen γ h) ∷ ‵ (fauth γ (T.the-row .coded .code h)) ∷ ‵ (session-in l h) ∷ ‵ (ref-in l₁ b o) ∷ Γ) (runs C Λ (locals 𝓤 H l₀ l₁ E) rest q))
       → Seq K W (‵ (seen γ h) ∷ ‵ (borrowed κ b o γ) ∷ ‵ (flft κ p) ∷ ‵ (froom T′.mir l 0) ∷ ‵ (ref-in l₁ b o) ∷ Γ) (runs C Λ (locals 𝓤 H l₀ l₁ E) (seq (assign (place i []) (rvOpd (copy (place 1 (deref T′.mir ∷ []))))) rest) q)
   begun t h b o i l e k =
-      opens t tt T.the-row {h = h} b o (λ vs. spelt t T.the-row (Is T.the-row) (shows 𝓤 H A T.the-row) s-vals (LL.tells T.the-type T′.the-laws) fullShare h vs b o $
-      move t (1 ∷ []) $ peeks t T.the-row (Is T.the-row) (shows 𝓤 H A T.the-row) h (s-vals h) (λ was. drop t $
-      assigns t (of-opd t (load t (from t (hop t (look t 5 refl) (stop t))) (look-raw t 0 refl))) (at-local t e (stop t)) (init t 4 refl (s-typed 𝓤 H A W h was)) $ k was))
+      taken t tt h b o (λ was. assigns t (of-opd t (load t (from t (hop t (look t 5 refl) (stop t))) (look-raw t 0 refl))) (at-local t e (stop t)) (init t 4 refl (s-typed 𝓤 H A W h was)) $ k was)
 
   pub settled : K → {u v : Gv} (h : Session) (r : Outcome) (w : Val) (b o : ℕ) (i l : ℕ) → spotOf 𝓤 H (locals 𝓤 H l₀ l₁ E) i ≡ (O′.mir, l, 0)
       → Step K W (‵ (seen γ (r .session)) ∷ ‵ (borrowed κ b o γ) ∷ ‵ (flft κ p) ∷ ‵ (O.the-row .own r (o-vals r)) ∷ ‵ (outcome-in l r) ∷ ‵ (ref-in l₁ b o) ∷ ‵ (outcome-in l₀ r) ∷ Γ) (runs C Λ (locals 𝓤 H l₀ l₁ E) return q)

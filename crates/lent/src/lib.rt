@@ -1,11 +1,20 @@
 // The session lent: the caller's one record goes into each call and holds the new session afterwards (RULES 9.2).
 ghost use mathlib.Core.Path.{_≡_};
 ghost use mathlib.Core.List.{[]};
+ghost use Rattle.tag.specs.Power.{powerUpOf};
 ghost use Rattle.tag.specs.Table.{input, frameOf, admitOf};
 ghost use Rattle.tag.specs.Port.{askOf, releaseOf, registerOf, readOf, writeOf};
 ghost use Rattle.tag.specs.Result.{result};
 use tag::Outcome;
 use tag::Session;
+
+pub fn power_up(session: &mut Session, image: &mut [u8], s: usize) -> Outcome
+    ensures { λ r. ⌜ (result r (now (image .exit)) [] ≡ powerUpOf (now (image .entry)) s) × (now (session .exit) ≡ r .session) ⌝ }
+{
+    let o = tag::power_up(image, s);
+    *session = o.session;
+    o
+}
 
 pub fn ask(session: &mut Session) -> Outcome
     ensures { λ r. ⌜ (result r [] [] ≡ askOf (now (session .entry))) × (now (session .exit) ≡ r .session) ⌝ }
