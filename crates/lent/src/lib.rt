@@ -1,4 +1,4 @@
-// The session lent: the caller's one record goes into each call and holds the new session afterwards (RULES 9.2).
+// The session lent: the caller's one record goes into each call and holds the new session afterwards (RULES 9.4).
 ghost use mathlib.Core.Path.{_≡_};
 ghost use mathlib.Core.List.{[]};
 ghost use Rattle.tag.specs.Power.{powerUpOf};
