@@ -1,0 +1,4 @@
+pub mod Records
+pub mod Told
+pub mod Laws
+pub mod Wrong

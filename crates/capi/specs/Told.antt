@@ -1,0 +1,91 @@
+-- What the exported operations hand back (RULES 10.4 and 10.5). Assumes nothing.
+use Prim.Native.Nat.{ℕ}
+use mathlib.Core.List.{List}
+use Rattle.image.specs.declared.Section.{Section}
+use Rattle.image.specs.declared.Layout.{Layout}
+use Rattle.image.specs.Check.{Checked, refused, good}
+use Rattle.tag.specs.declared.Outcome as outcome
+use Rattle.tag.specs.Session.{numberOf}
+use Rattle.tag.specs.Result.{Result}
+use Rattle.capi.specs.declared.Record.{Record}
+use Rattle.capi.specs.declared.Told.{Told}
+use Rattle.capi.specs.declared.Place.{Place}
+use Rattle.capi.specs.declared.Sheet.{Sheet}
+use Rattle.capi.specs.Records.{recordOf}
+
+-- a Result whose session is the record
+pub record Left : Type 0 where
+  pub number : ℕ
+  pub session : Record
+  pub reply : ℕ
+  pub stores : ℕ
+  pub value : ℕ
+  pub image : List ℕ
+  pub room : List ℕ
+
+-- what an exported call left
+abbrev pub told : Told → List ℕ → List ℕ → Left
+told o image room =
+    record { number = o .answer; session = o .session; reply = o .reply; stores = o .stores; value = o .value; image = image; room = room }
+
+-- what the core's promise asks for, with its session written
+abbrev pub toldOf : Result → Left
+toldOf r =
+    record {
+      number = r .number;
+      session = recordOf (r .session .power);
+      reply = r .reply;
+      stores = r .stores;
+      value = r .value;
+      image = r .image;
+      room = r .room;
+    }
+
+abbrev pub outcomeOf : outcome.Outcome → Told
+outcomeOf o =
+    record {
+      answer = numberOf (o .answer);
+      value = o .value;
+      session = recordOf (o .session .power);
+      reply = o .reply;
+      stores = o .stores;
+    }
+
+abbrev pub placeOf : Section → Place
+placeOf s = record { at = s .at; words = s .words }
+
+abbrev pub nowhere : Place
+nowhere = record { at = 0; words = 0 }
+
+abbrev pub refusedSheet : ℕ → Sheet
+refusedSheet n =
+    record {
+      answer = n;
+      block = 0;
+      status = nowhere;
+      reserved = nowhere;
+      epc = nowhere;
+      tid = nowhere;
+      user = nowhere;
+      perma = nowhere;
+      work = nowhere;
+    }
+
+abbrev pub layoutSheet : Layout → Sheet
+layoutSheet y =
+    record {
+      answer = 0;
+      block = y .block;
+      status = placeOf (y .status);
+      reserved = placeOf (y .reserved);
+      epc = placeOf (y .epc);
+      tid = placeOf (y .tid);
+      user = placeOf (y .user);
+      perma = placeOf (y .perma);
+      work = placeOf (y .work);
+    }
+
+-- THE SHEET of what the check answers: a refusal has no layout
+abbrev pub sheetOf : Checked → Sheet
+sheetOf (refused n) = refusedSheet n
+sheetOf (good y) = layoutSheet y

@@ -1,0 +1,211 @@
+-- Records that are no session, and for each exported operation two wrong answers that its promise rules out, computed (RULES 10.3 and 10.6). Assumes nothing.
+use Prim.Native.Nat.{ℕ}
+use mathlib.Core.Path.{_≡_, refl, sym, ap, _∙_}
+use mathlib.Core.Bool.{Bool, true, false}
+use mathlib.Core.List.{List, [], _∷_}
+use native.Mathlib.Omega.{arith}
+use lib.ListN.{replicate}
+use Rattle.bits.specs.Words.{wordAt, withWord}
+use Rattle.bits.specs.Bits.{fieldAt, bitsOf, wordsBits}
+use Rattle.crc.specs.Crc.{crcOf}
+use Rattle.image.specs.Layout.{layoutOf, headerGood, blocksIn}
+use Rattle.image.specs.Content.{rulesHold, contentGood}
+use Rattle.image.specs.Check.{checkOf}
+use Rattle.image.specs.Worked.{worked}
+use Rattle.frames.specs.Frames.{heardOf}
+use Rattle.replies.specs.Pack.{filled, packed}
+use Rattle.stores.specs.Stores.{powerStores}
+use Rattle.tag.specs.declared.Cover.the-variants as cover
+use Rattle.tag.specs.declared.Half.the-variants as half
+use Rattle.tag.specs.declared.State.the-variants as state
+use Rattle.tag.specs.Session.{offSession, on}
+use Rattle.tag.specs.Power.{started, powerUpOf}
+use Rattle.tag.specs.Table.{input, frameOf, admitOf}
+use Rattle.tag.specs.Port.{askOf, releaseOf, registerOf, readOf, writeOf}
+use Rattle.capi.specs.declared.Record.{Record}
+use Rattle.capi.specs.declared.Sheet.{Sheet}
+use Rattle.capi.specs.Records.{looseOf, same, sessionOf}
+use Rattle.capi.specs.Told.{Left, toldOf, sheetOf}
+
+-- a record by state, port and number, and one with a link
+abbrev of : ℕ → ℕ → ℕ → Record
+of st held n = record { state = st; held = held; unwritten = 0; killed = 0; covered = 0; half = 0; number = n; cover = 0; upper = 0 }
+
+abbrev linked : ℕ → ℕ → ℕ → ℕ → Record
+linked covered kind c u =
+    record { state = 4; held = 0; unwritten = 1; killed = 0; covered = covered; half = kind; number = 0x1234; cover = c; upper = u }
+
+-- what is a session, and what is not: an unknown state, a number, a cover or a half where none belongs, a truth value that is neither 0 nor 1
+pub record Readings : Type 0 where
+  pub whole : sessionOf (linked 1 2 0x5678 0x9ABC)
+      ≡ on (state.Secured (record { handle = 0x1234; cover = cover.Number 0x5678; half = half.Kill 0x9ABC })) false (record { unwritten = true; killed = false })
+  pub unknown : sessionOf (of 6 0 0) ≡ offSession
+  pub stray-number : sessionOf (of 1 0 5) ≡ offSession
+  pub number-killed : sessionOf (of 5 0 5) ≡ offSession
+  pub stray-cover : sessionOf (linked 0 2 0x5678 0x9ABC) ≡ offSession
+  pub stray-half : sessionOf (linked 1 0 0x5678 0x9ABC) ≡ offSession
+  pub unknown-half : sessionOf (linked 1 3 0x5678 0x9ABC) ≡ offSession
+  pub covered-twice : sessionOf (linked 2 2 0x5678 0x9ABC) ≡ offSession
+  pub held-twice : sessionOf (of 1 2 0) ≡ offSession
+
+pub readings : Readings
+unfolding sessionOf looseOf same
+readings =
+    record {
+      whole = refl;
+      unknown = refl;
+      stray-number = refl;
+      number-killed = refl;
+      stray-cover = refl;
+      stray-half = refl;
+      unknown-half = refl;
+      covered-twice = refl;
+      held-twice = refl;
+    }
+
+-- what each call must leave
+abbrev checked : Sheet
+checked = sheetOf (checkOf worked)
+
+abbrev powered : Left
+powered = toldOf (powerUpOf worked 1)
+
+abbrev admitted : Record → Left
+admitted r = toldOf (admitOf (sessionOf r) 0x1234)
+
+abbrev heard : Record → Left
+heard r = toldOf (frameOf (input (sessionOf r) worked (0xC0 ∷ []) 8 0 [] 0))
+
+abbrev asked : Record → Left
+asked r = toldOf (askOf (sessionOf r))
+
+abbrev released : Record → Left
+released r = toldOf (releaseOf (sessionOf r))
+
+abbrev registered : Record → Left
+registered r = toldOf (registerOf (sessionOf r))
+
+abbrev shown : Record → Left
+shown r = toldOf (readOf (sessionOf r) worked 2 1 (replicate 3 0xFF))
+
+abbrev written : Record → Left
+written r = toldOf (writeOf (sessionOf r) worked 2 (0x11 ∷ 0x22 ∷ []) 5)
+
+pub record Small : Type 0 where
+  pub admit : admitted (of 1 0 0) .session ≡ of 2 0 0x1234
+  pub admit-bad : admitted (of 6 0 0) .number ≡ 5
+  pub ask : asked (of 1 0 0) .session .held ≡ 1
+  pub ask-bad : asked (of 1 0 5) .number ≡ 5
+  pub release : released (of 1 1 0) .session .held ≡ 0
+  pub release-bad : released (of 1 2 0) .number ≡ 5
+  pub register : registered (of 5 1 0) .number ≡ 0
+  pub register-bad : registered (of 5 1 5) .number ≡ 5
+
+pub small : Small
+unfolding sessionOf looseOf same admitOf askOf releaseOf registerOf
+small =
+    record {
+      admit = refl;
+      admit-bad = refl;
+      ask = refl;
+      ask-bad = refl;
+      release = refl;
+      release-bad = refl;
+      register = refl;
+      register-bad = refl;
+    }
+
+pub record Large : Type 0 where
+  pub check : checked .answer ≡ 0
+  pub check-user : checked .user .at ≡ 28
+  pub power : powered .session .state ≡ 1
+  pub power-stores : powered .stores ≡ 1
+  pub frame : heard (of 2 0 0x1234) .session ≡ of 1 0 0
+  pub frame-bad : heard (of 9 0 0) .number ≡ 5
+  pub read : wordAt (shown (of 1 1 0) .room) 0 ≡ 6
+  pub read-bad : shown (of 1 1 7) .number ≡ 5
+  pub write : written (of 1 1 0) .stores ≡ 5
+  pub write-bad : written (of 7 1 0) .number ≡ 5
+
+pub large : Large
+unfolding sessionOf looseOf same checkOf powerUpOf started powerStores frameOf readOf writeOf layoutOf headerGood blocksIn contentGood rulesHold worked wordAt withWord wordsBits bitsOf crcOf fieldAt heardOf filled packed
+large =
+    record {
+      check = refl;
+      check-user = refl;
+      power = refl;
+      power-stores = refl;
+      frame = refl;
+      frame-bad = refl;
+      read = refl;
+      read-bad = refl;
+      write = refl;
+      write-bad = refl;
+    }
+
+-- a number that is one thing is no other
+other : (x a b : ℕ) → x ≡ a → (a ≡ b → ⊥) → x ≡ b → ⊥
+other x a b e n f = n (sym e ∙ f)
+
+-- a check that refuses the worked image, and one that hides its layout
+pub check-refuses : checked .answer ≡ 2 → ⊥
+check-refuses = other _ 0 2 (large .check) (λ z. omega (arith, z))
+
+pub check-hides : checked .user .at ≡ 0 → ⊥
+check-hides = other _ 28 0 (large .check-user) (λ z. omega (arith, z))
+
+-- a power-up that leaves Off, and one that stores nothing
+pub power-off : powered .session .state ≡ 0 → ⊥
+power-off = other _ 1 0 (large .power) (λ z. omega (arith, z))
+
+pub power-lazy : powered .stores ≡ 0 → ⊥
+power-lazy = other _ 1 0 (large .power-stores) (λ z. omega (arith, z))
+
+-- an admission that loses its number, and one of an unknown state
+pub admit-loses : admitted (of 1 0 0) .session .number ≡ 0 → ⊥
+admit-loses = other _ 0x1234 0 (ap (λ (r : Record). r .number) (small .admit)) (λ z. omega (arith, z))
+
+pub admit-unknown : admitted (of 6 0 0) .number ≡ 0 → ⊥
+admit-unknown = other _ 5 0 (small .admit-bad) (λ z. omega (arith, z))
+
+-- a NAK that keeps the number, and one to an unknown state
+pub frame-keeps : heard (of 2 0 0x1234) .session .number ≡ 0x1234 → ⊥
+frame-keeps = other _ 0 0x1234 (ap (λ (r : Record). r .number) (large .frame)) (λ z. omega (arith, z))
+
+pub frame-unknown : heard (of 9 0 0) .number ≡ 0 → ⊥
+frame-unknown = other _ 5 0 (large .frame-bad) (λ z. omega (arith, z))
+
+-- a port granted but not held, and one granted to a stray number
+pub ask-free : asked (of 1 0 0) .session .held ≡ 0 → ⊥
+ask-free = other _ 1 0 (small .ask) (λ z. omega (arith, z))
+
+pub ask-stray : asked (of 1 0 5) .number ≡ 0 → ⊥
+ask-stray = other _ 5 0 (small .ask-bad) (λ z. omega (arith, z))
+
+-- a release that keeps the port, and one of a port held twice
+pub release-keeps : released (of 1 1 0) .session .held ≡ 1 → ⊥
+release-keeps = other _ 0 1 (small .release) (λ z. omega (arith, z))
+
+pub release-twice : released (of 1 2 0) .number ≡ 0 → ⊥
+release-twice = other _ 5 0 (small .release-bad) (λ z. omega (arith, z))
+
+-- a register that is not told to its holder, and one told to a stray number
+pub register-refuses : registered (of 5 1 0) .number ≡ 5 → ⊥
+register-refuses = other _ 0 5 (small .register) (λ z. omega (arith, z))
+
+pub register-stray : registered (of 5 1 5) .number ≡ 0 → ⊥
+register-stray = other _ 5 0 (small .register-bad) (λ z. omega (arith, z))
+
+-- a read that shows a zero, and one for a stray number
+pub read-zero : wordAt (shown (of 1 1 0) .room) 0 ≡ 0 → ⊥
+read-zero = other _ 6 0 (large .read) (λ z. omega (arith, z))
+
+pub read-stray : shown (of 1 1 7) .number ≡ 0 → ⊥
+read-stray = other _ 5 0 (large .read-bad) (λ z. omega (arith, z))
+
+-- a write that makes no store, and one in an unknown state
+pub write-lazy : written (of 1 1 0) .stores ≡ 0 → ⊥
+write-lazy = other _ 5 0 (large .write) (λ z. omega (arith, z))
+
+pub write-unknown : written (of 7 1 0) .number ≡ 0 → ⊥
+write-unknown = other _ 5 0 (large .write-bad) (λ z. omega (arith, z))

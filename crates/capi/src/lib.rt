@@ -1,0 +1,149 @@
+// What firmware links (RULES 10): each operation over numbers, lent bytes and records of numbers.
+ghost use mathlib.Core.Path.{_≡_};
+ghost use mathlib.Core.List.{[]};
+ghost use Rattle.image.specs.Check.{checkOf};
+ghost use Rattle.tag.specs.Power.{powerUpOf};
+ghost use Rattle.tag.specs.Table.{input, frameOf, admitOf};
+ghost use Rattle.tag.specs.Port.{askOf, releaseOf, registerOf, readOf, writeOf};
+ghost use Rattle.capi.specs.Records.{sessionOf};
+ghost use Rattle.capi.specs.Told.{told, toldOf, sheetOf};
+
+mod records;
+mod sheets;
+
+// A session: its state, and what that state holds. A number where none belongs is 0.
+#[repr(C)]
+pub struct Record {
+    pub state: u8,
+    pub held: u8,
+    pub unwritten: u8,
+    pub killed: u8,
+    pub covered: u8,
+    pub half: u8,
+    pub number: u16,
+    pub cover: u16,
+    pub upper: u16,
+}
+
+// An outcome: the answer's number, the register where it was read, the new session, the reply's length in bits, and the stores made.
+#[repr(C)]
+pub struct Told {
+    pub answer: u8,
+    pub value: u8,
+    pub session: Record,
+    pub reply: usize,
+    pub stores: usize,
+}
+
+// A section: its offset in the image and its count, both in words.
+#[repr(C)]
+pub struct Place {
+    pub at: u16,
+    pub words: u16,
+}
+
+// What the check answers: a number, and where it is 0 the layout.
+#[repr(C)]
+pub struct Sheet {
+    pub answer: u8,
+    pub block: u16,
+    pub status: Place,
+    pub reserved: Place,
+    pub epc: Place,
+    pub tid: Place,
+    pub user: Place,
+    pub perma: Place,
+    pub work: Place,
+}
+
+// The image check.
+#[no_mangle]
+pub extern "C" fn tag_check(image: &[u8]) -> Sheet
+    ensures { λ r. ⌜ r ≡ sheetOf (checkOf (now (image .entry))) ⌝ }
+{
+    sheets::sheet(image::check(image))
+}
+
+// Power-up, with power for s stores.
+#[no_mangle]
+pub extern "C" fn tag_power_up(image: &mut [u8], s: usize) -> Told
+    ensures { λ r. ⌜ told r (now (image .exit)) [] ≡ toldOf (powerUpOf (now (image .entry)) s) ⌝ }
+{
+    records::outcome(tag::power_up(image, s))
+}
+
+// An admission with a 16-bit number.
+#[no_mangle]
+pub extern "C" fn tag_admit(session: Record, number: u16) -> Told
+    ensures { λ r. ⌜ told r [] [] ≡ toldOf (admitOf (sessionOf session) number) ⌝ }
+{
+    records::outcome(records::session(session).admit(number))
+}
+
+// A radio frame of n bits, with a fresh random word, a reply room and power for s stores.
+#[no_mangle]
+pub extern "C" fn tag_frame(
+    session: Record,
+    image: &mut [u8],
+    n: usize,
+    frame: &[u8],
+    fresh: u16,
+    room: &mut [u8],
+    s: usize,
+) -> Told
+    ensures { λ r. ⌜ told r (now (image .exit)) (now (room .exit)) ≡ toldOf (frameOf (input (sessionOf session) (now (image .entry)) (now (frame .entry)) n fresh (now (room .entry)) s)) ⌝ }
+{
+    records::outcome(records::session(session).frame(image, frame, n, fresh, room, s))
+}
+
+// Asks for the port.
+#[no_mangle]
+pub extern "C" fn tag_ask(session: Record) -> Told
+    ensures { λ r. ⌜ told r [] [] ≡ toldOf (askOf (sessionOf session)) ⌝ }
+{
+    records::outcome(records::session(session).ask())
+}
+
+// Gives the port back.
+#[no_mangle]
+pub extern "C" fn tag_release(session: Record) -> Told
+    ensures { λ r. ⌜ told r [] [] ≡ toldOf (releaseOf (sessionOf session)) ⌝ }
+{
+    records::outcome(records::session(session).release())
+}
+
+// Reads the register, which clears it.
+#[no_mangle]
+pub extern "C" fn tag_register(session: Record) -> Told
+    ensures { λ r. ⌜ told r [] [] ≡ toldOf (registerOf (sessionOf session)) ⌝ }
+{
+    records::outcome(records::session(session).register())
+}
+
+// Reads count words of USER from word `at` on into the room.
+#[no_mangle]
+pub extern "C" fn tag_read(
+    session: Record,
+    image: &[u8],
+    at: usize,
+    count: usize,
+    room: &mut [u8],
+) -> Told
+    ensures { λ r. ⌜ told r (now (image .entry)) (now (room .exit)) ≡ toldOf (readOf (sessionOf session) (now (image .entry)) at count (now (room .entry))) ⌝ }
+{
+    records::outcome(records::session(session).read(image, at, count, room))
+}
+
+// Writes words to USER from word `at` on, with power for s stores.
+#[no_mangle]
+pub extern "C" fn tag_write(
+    session: Record,
+    image: &mut [u8],
+    at: usize,
+    words: &[u8],
+    s: usize,
+) -> Told
+    ensures { λ r. ⌜ told r (now (image .exit)) [] ≡ toldOf (writeOf (sessionOf session) (now (image .entry)) at (now (words .entry)) s) ⌝ }
+{
+    records::outcome(records::session(session).write(image, at, words, s))
+}

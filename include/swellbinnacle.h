@@ -1,0 +1,132 @@
+/* Swellbinnacle for C: the tag's operations, proved, in libcapi.a. docs/RULES.md has the rules by number.
+
+   Every call has an answer for any numbers and any bytes. What C must keep, in every call:
+   - each pointer is valid for the bytes counted after it, and not null, even where the count is 0;
+   - image, frame, words and room of one call do not overlap;
+   - no other thread touches them, nor the image, until the call returns.
+   The sizes fit a size_t; the library allocates nothing and keeps nothing between calls.
+
+   Answers, by number (RULES 5). "Everything stays": image, session and room are as before.
+      0 done
+      1 the image is under 32 bytes                                     everything stays
+      2 its header is wrong, or its length is not the image's           everything stays
+      3 a content rule is broken                                        everything stays
+      4 the reply does not fit the room                                 everything stays
+      5 the session is Off, or a change is pending: power up            everything stays
+      6 the port is held, or not held when needed, or not granted       everything stays
+      7 unknown code, length or pointer wrong                           everything stays
+      8 CRC-16 wrong                                                    everything stays
+      9 wrong number or state, no cover number, zero range or RFU       everything stays
+     10 an error reply was given                                        the image stays; the cover number is used up
+     11 the power was lost                                              the first stores were made; Off; no reply
+     12 password wrong or halves broken                                 the image stays; Arbitrate; no reply
+     13 SPI count 0 or over 255, odd data, past USER's end, or a write of more words than a change may have
+                                                                        everything stays */
+#ifndef SWELLBINNACLE_H
+#define SWELLBINNACLE_H
+
+#include <stddef.h>
+#include <stdint.h>
+
+/* tag_session.state */
+enum { TAG_OFF, TAG_ARBITRATE, TAG_ACKNOWLEDGED, TAG_OPEN, TAG_SECURED, TAG_KILLED };
+
+/* tag_session.half */
+enum { TAG_NO_HALF, TAG_ACCESS_HALF, TAG_KILL_HALF };
+
+/* A session. Keep it from one call to the next; all bytes 0 is Off. A record that no call hands back, as with an unknown state or a
+   number where none belongs, is answered as Off. */
+struct tag_session {
+    uint8_t state;     /* TAG_OFF .. */
+    uint8_t held;      /* 1: the port is held */
+    uint8_t unwritten; /* 1: register bit 1, some word was not written */
+    uint8_t killed;    /* 1: register bit 0, killed */
+    uint8_t covered;   /* 1: there is a cover number (Open, Secured) */
+    uint8_t half;      /* TAG_NO_HALF .. : the password half that waits (Open, Secured) */
+    uint16_t number;   /* Acknowledged: the admission number; Open, Secured: the handle; else 0 */
+    uint16_t cover;    /* the cover number; 0 where there is none */
+    uint16_t upper;    /* the half that waits, uncovered; 0 where there is none */
+};
+
+/* What a call hands back. */
+struct tag_outcome {
+    uint8_t answer;             /* 0 to 13 */
+    uint8_t value;              /* tag_register: the register, 0 to 3; else 0 */
+    struct tag_session session; /* the session from now on */
+    size_t reply;               /* the reply's bits in the room, the first bit highest; 0: no reply */
+    size_t stores;              /* the word stores made */
+};
+
+/* A section: offset in the image and count, both in words of 16 bits. */
+struct tag_place {
+    uint16_t at;
+    uint16_t words;
+};
+
+/* What the image check hands back. Where the answer is not 0, all else is 0. */
+struct tag_sheet {
+    uint8_t answer; /* 0 to 3 */
+    uint16_t block; /* the block size in words */
+    struct tag_place status;
+    struct tag_place reserved;
+    struct tag_place epc;
+    struct tag_place tid;
+    struct tag_place user;
+    struct tag_place perma;
+    struct tag_place work;
+};
+
+/* The image check. Answers 0 to 3. The image is only read. */
+struct tag_sheet tag_check(const uint8_t *image, size_t image_bytes);
+
+/* Power-up, with power for `stores` word stores: finishes a pending change, stores the EPC's CRC-16, and gives the first session, Arbitrate
+   or Killed. Answers 0, 1, 2, 3, 11; after any but 0 the session is Off. */
+struct tag_outcome tag_power_up(uint8_t *image, size_t image_bytes, size_t stores);
+
+/* An admission with a 16-bit number: Arbitrate becomes Acknowledged. Answers 0, 5, 6, 9. */
+struct tag_outcome tag_admit(struct tag_session session, uint16_t number);
+
+/* A radio frame of `bits` bits, the first bit highest. `fresh` is a random word, new for each call; the reply goes to the room; the power
+   lasts `stores` word stores. Answers 0 to 12. A Read of n words has a reply of 33 + 16 * n bits: 8,197 bytes hold any reply. */
+struct tag_outcome tag_frame(struct tag_session session, uint8_t *image, size_t image_bytes, size_t bits, const uint8_t *frame,
+                             size_t frame_bytes, uint16_t fresh, uint8_t *room, size_t room_bytes, size_t stores);
+
+/* Asks for the SPI port. Answers 0, 5, 6; while it is held, frames and admissions are answered 6. */
+struct tag_outcome tag_ask(struct tag_session session);
+
+/* Gives the port back. Answers 0, 5, 6. */
+struct tag_outcome tag_release(struct tag_session session);
+
+/* Reads the error register into `value`, and clears it. Answers 0, 5, 6. */
+struct tag_outcome tag_register(struct tag_session session);
+
+/* Reads `count` words of USER from word `at` on into the room, high byte first. The image is only read. Answers 0, 1, 2, 3, 4, 5, 6, 13. */
+struct tag_outcome tag_read(struct tag_session session, const uint8_t *image, size_t image_bytes, size_t at, size_t count, uint8_t *room,
+                            size_t room_bytes);
+
+/* Writes the words, two bytes each, high byte first, to USER from word `at` on, as one change, with power for `stores` word stores. Words that
+   may not be written are left out, and set register bit 1. Answers 0, 1, 2, 3, 5, 6, 11, 13. */
+struct tag_outcome tag_write(struct tag_session session, uint8_t *image, size_t image_bytes, size_t at, const uint8_t *words,
+                             size_t words_bytes, size_t stores);
+
+/* The layout that the library was compiled for. */
+_Static_assert(sizeof(size_t) == 8, "size_t");
+_Static_assert(sizeof(struct tag_session) == 12 && _Alignof(struct tag_session) == 2, "tag_session");
+_Static_assert(offsetof(struct tag_session, state) == 0 && offsetof(struct tag_session, held) == 1, "state, held");
+_Static_assert(offsetof(struct tag_session, unwritten) == 2 && offsetof(struct tag_session, killed) == 3, "unwritten, killed");
+_Static_assert(offsetof(struct tag_session, covered) == 4 && offsetof(struct tag_session, half) == 5, "covered, half");
+_Static_assert(offsetof(struct tag_session, number) == 6 && offsetof(struct tag_session, cover) == 8, "number, cover");
+_Static_assert(offsetof(struct tag_session, upper) == 10, "upper");
+_Static_assert(sizeof(struct tag_outcome) == 32 && _Alignof(struct tag_outcome) == 8, "tag_outcome");
+_Static_assert(offsetof(struct tag_outcome, answer) == 0 && offsetof(struct tag_outcome, value) == 1, "answer, value");
+_Static_assert(offsetof(struct tag_outcome, session) == 2, "session");
+_Static_assert(offsetof(struct tag_outcome, reply) == 16 && offsetof(struct tag_outcome, stores) == 24, "reply, stores");
+_Static_assert(sizeof(struct tag_place) == 4 && offsetof(struct tag_place, at) == 0 && offsetof(struct tag_place, words) == 2, "tag_place");
+_Static_assert(sizeof(struct tag_sheet) == 32 && _Alignof(struct tag_sheet) == 2, "tag_sheet");
+_Static_assert(offsetof(struct tag_sheet, answer) == 0 && offsetof(struct tag_sheet, block) == 2, "answer, block");
+_Static_assert(offsetof(struct tag_sheet, status) == 4 && offsetof(struct tag_sheet, reserved) == 8, "status, reserved");
+_Static_assert(offsetof(struct tag_sheet, epc) == 12 && offsetof(struct tag_sheet, tid) == 16, "epc, tid");
+_Static_assert(offsetof(struct tag_sheet, user) == 20 && offsetof(struct tag_sheet, perma) == 24, "user, perma");
+_Static_assert(offsetof(struct tag_sheet, work) == 28, "work");
+
+#endif

@@ -1,0 +1,5 @@
+/* For a compiler that comes without C's headers. */
+#pragma once
+typedef __SIZE_TYPE__ size_t;
+#define NULL ((void *)0)
+#define offsetof(type, field) __builtin_offsetof(type, field)

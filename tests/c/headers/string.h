@@ -1,0 +1,6 @@
+/* For a compiler that comes without C's headers. */
+#pragma once
+#include <stddef.h>
+void *memset(void *, int, size_t);
+void *memcpy(void *, const void *, size_t);
+int memcmp(const void *, const void *, size_t);
