@@ -1,6 +1,6 @@
 -- A view shows its bank's words and no other (RULES 9.1): it answers as the plain form does, and a store outside the bank changes no byte of it. Assumes nothing.
 use Prim.Native.Nat.{ℕ, _+_, _-_, _*_, _/_, _≤_, _<_}
-use mathlib.Core.Path.{_≡_, refl, _∙_, subst⁻¹}
+use mathlib.Core.Path.{_≡_, refl, sym, _∙_, subst⁻¹}
 use mathlib.Core.Bool.{Bool, true, false, cond}
 use mathlib.Core.List.{List}
 use mathlib.Core.Logic.{_⊎_, inl, inr}
@@ -19,7 +19,8 @@ use Rattle.image.specs.Rules.{Header}
 use Rattle.image.proofs.Answers.{check-good}
 use Rattle.rights.specs.Rights.{bankOf}
 use Rattle.bank.specs.declared.Word.the-variants as word
-use Rattle.bank.specs.Views.{bytesOf, viewIf, viewOf, countIn, wordIn, wordIf, wordOf}
+use Rattle.bank.specs.declared.View.{View}
+use Rattle.bank.specs.Views.{shown, bytesOf, viewIf, viewOf, countIn, wordIn, wordIf, wordOf}
 
 -- every bank of a good image lies in it
 pub bank-ends : (y : Layout) (m : List ℕ) (b : ℕ) → Header y m → 2 * end (bankOf y b) ≤ length m
@@ -88,3 +89,7 @@ no-other s m j v (inl h) =
 no-other s m j v (inr h) =
     let k : j ≡ s .at + (s .words + (j - end s)) = omega arith in
     rw (k, drop-with, take-with) refl
+
+-- ONE OUTCOME: two views that meet one promise show the same
+pub one-view : (m : List ℕ) (b : ℕ) (v w : View) → shown v ≡ viewOf m b → shown w ≡ viewOf m b → shown v ≡ shown w
+one-view m b v w e f = e ∙ sym f

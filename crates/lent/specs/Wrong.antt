@@ -22,15 +22,11 @@ use Rattle.tag.specs.declared.Power.the-variants as power
 use Rattle.tag.specs.declared.Session.{Session}
 use Rattle.tag.specs.declared.Outcome.{Outcome}
 use Rattle.tag.specs.Session.{offSession, newSession, on, clear}
-use Rattle.tag.specs.Result.{Result, result}
+use Rattle.tag.specs.Result.{Result}
 use Rattle.tag.specs.Power.{started, powerUpOf}
 use Rattle.tag.specs.Table.{input, frameOf, admitOf}
 use Rattle.tag.specs.Port.{bitOf, numberIn, askOf, releaseOf, registerOf, readOf, writeOf}
-
--- what a lent call promises where the by-value form leaves x: the outcome o tells it with image and room, and the record holds o's session
-pub record Lent (x : Result) (o : Outcome) (image room : List ℕ) (found : Session) : Type 0 where
-  pub same : result o image room ≡ x
-  pub holds : found ≡ o .session
+use Rattle.lent.specs.Lent.{Lent, finds}
 
 -- a number for each of the sessions below
 abbrev stateNo : State → ℕ
@@ -51,7 +47,7 @@ Never x w = (o : Outcome) (image room : List ℕ) (found : Session) → Lent x o
 never : (x : Result) (w : Session) → eqb (no (x .session .power)) (no (w .power)) ≡ false → Never x w
 never x w d o image room t l e =
     eqb-false (no (x .session .power)) (no (w .power)) d
-    (ap (λ (s : Session). no (s .power)) (ap (λ (r : Result). r .session) (sym (l .same)) ∙ sym (l .holds) ∙ e))
+    (ap (λ (s : Session). no (s .power)) (sym (finds x o image room t l) ∙ e))
 
 -- sessions: one that holds the port, and one with bit 1 of its register set
 abbrev holding : State → Session
