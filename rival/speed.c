@@ -111,75 +111,79 @@ static void done(void) {
     frame_end(&frame);
 }
 
-static double worst, growth;
+static const runner checks[3] = {library_check, table_checks, wide_checks}, frames[3] = {library_frame, table_frames, wide_frames},
+                    reads[3] = {library_read, table_reads, wide_reads}, writes[3] = {library_write, table_writes, wide_writes};
 
-static void line(const char *name, int large, const runner r[3], double *kept) {
-    double t[3];
-    race(r, t);
-    double fast = t[1] < t[2] ? t[1] : t[2];
-    if (t[0] / fast > worst) worst = t[0] / fast;
-    printf("| %s | %s | %.2f | %.2f | ", name, large ? "largest" : "small", t[0] / t[1], t[0] / t[2]);
-    if (large && *kept > 0) {
-        double g = t[0] / *kept;
-        if (g > growth) growth = g;
-        printf("%.2f |\n", g);
-    } else {
-        printf("|\n");
-    }
-    *kept = t[0];
-}
+static const struct call {
+    const char *name;
+    const runner *run;
+} calls[] = {{"check, nothing pending", checks}, {"check, 255 pending", checks}, {"Req_RN", frames},         {"Write", frames},
+             {"BlockWrite, 16 words", frames},   {"Read, 8 words", frames},      {"Read, 4,096 words", frames}, {"SPI read, 64 words", reads},
+             {"SPI write, 64 words", writes}};
 
-int main(int argc, char **argv) {
-    static const runner checks[3] = {library_check, table_checks, wide_checks}, frames[3] = {library_frame, table_frames, wide_frames},
-                        reads[3] = {library_read, table_reads, wide_reads}, writes[3] = {library_write, table_writes, wide_writes};
-    double kept[9] = {0};
-    (void)argv;
-    table_start();
-    if (agree(argc > 1 ? 300000 : 30000)) return 1;
-    printf("| Call | Image | to table | to 64-bit | to small |\n|---|---|---|---|---|\n");
-    for (int large = 0; large < 2; large++) {
-        fill(large);
-        line("check, nothing pending", large, checks, &kept[0]);
+enum { PENDING = 1, REQ_RN, WRITE, BLOCK_WRITE, READ, READ_ALL, SPI_READ, CALLS = sizeof calls / sizeof calls[0] };
+
+/* image, session and frame of a call */
+static void prepare(int call, int large) {
+    static const uint8_t codes[] = {0, 0, 0xC1, 0xC3, 0xC7, 0xC2, 0xC2};
+    static const struct tag_session held = {TAG_ARBITRATE, 1, 0, 0, 0, 0, 0, 0, 0};
+    fill(large);
+    if (call == PENDING) {
         put(word(14), 255);
         for (unsigned j = 0; j < 255; j++) put(word(14) + 1 + 2 * j, word(10) + j % 64);
-        line("check, 255 pending", large, checks, &kept[1]);
-        put(word(14), 0);
-        secured(0xC1);
-        done();
-        line("Req_RN", large, frames, &kept[2]);
-        secured(0xC3);
-        frame_bits(&frame, 3, 2);
-        frame_pointer(&frame, 3, 1);
-        frame_bits(&frame, 0xABCD ^ 0x5A5A, 16);
-        done();
-        line("Write", large, frames, &kept[3]);
-        secured(0xC7);
-        frame_bits(&frame, 3, 2);
-        frame_pointer(&frame, 3, 1);
-        frame_bits(&frame, 16, 8);
-        for (unsigned i = 0; i < 16; i++) frame_bits(&frame, 0x1357u * i & 0xFFFF, 16);
-        done();
-        line("BlockWrite, 16 words", large, frames, &kept[4]);
-        secured(0xC2);
-        frame_bits(&frame, 3, 2);
-        frame_pointer(&frame, 3, 1);
-        frame_bits(&frame, 8, 8);
-        done();
-        line("Read, 8 words", large, frames, &kept[5]);
-        if (large) {
-            secured(0xC2);
-            frame_bits(&frame, 3, 2);
-            frame_pointer(&frame, 0, 1);
-            frame_bits(&frame, 0, 8);
-            done();
-            line("Read, 4,096 words", large, frames, &kept[6]);
-        }
-        struct tag_session held = {TAG_ARBITRATE, 1, 0, 0, 0, 0, 0, 0, 0};
-        session = held;
-        memset(words, 0x5C, sizeof words);
-        line("SPI read, 64 words", large, reads, &kept[7]);
-        line("SPI write, 64 words", large, writes, &kept[8]);
     }
+    session = held;
+    memset(words, 0x5C, sizeof words);
+    if (call < REQ_RN || call >= SPI_READ) return;
+    secured(codes[call]);
+    if (call > REQ_RN) {
+        frame_bits(&frame, 3, 2);
+        frame_pointer(&frame, call == READ_ALL ? 0 : 3, 1);
+    }
+    if (call == WRITE) frame_bits(&frame, 0xABCD ^ 0x5A5A, 16);
+    if (call > WRITE) frame_bits(&frame, call == BLOCK_WRITE ? 16 : call == READ ? 8 : 0, 8);
+    for (unsigned i = 0; call == BLOCK_WRITE && i < 16; i++) frame_bits(&frame, 0x1357u * i & 0xFFFF, 16);
+    done();
+}
+
+static void table_of_times(void) {
+    double worst = 0, growth = 0, small[CALLS] = {0};
+    printf("| Call | Image | to table | to 64-bit | to small |\n|---|---|---|---|---|\n");
+    for (int large = 0; large < 2; large++)
+        for (int i = 0; i < CALLS; i++) {
+            if (i == READ_ALL && !large) continue;
+            double t[3];
+            prepare(i, large);
+            race(calls[i].run, t);
+            double r = t[0] / (t[1] < t[2] ? t[1] : t[2]), g = large && small[i] > 0 ? t[0] / small[i] : 0;
+            if (r > worst) worst = r;
+            if (g > growth) growth = g;
+            printf("| %s | %s | %.2f | %.2f |", calls[i].name, large ? "largest" : "small", t[0] / t[1], t[0] / t[2]);
+            if (g > 0) printf(" %.2f", g);
+            printf(" |\n");
+            small[i] = t[0];
+        }
     printf("worst to the faster rival %.2f, worst to small %.2f\n", worst, growth);
+}
+
+/* between these two a call's instructions are counted */
+__attribute__((noinline)) static void counted_from(void) { __asm__ volatile("nop"); }
+__attribute__((noinline)) static void counted_to(void) { __asm__ volatile("nop"); }
+
+/* speed: agree, then the table. speed more: the same with ten times the calls. speed CALL IMAGE WAY: the one call, for its instructions. */
+int main(int argc, char **argv) {
+    table_start();
+    if (argc == 4) {
+        runner r = calls[argv[1][0] - '0'].run[argv[3][0] - '0'];
+        prepare(argv[1][0] - '0', argv[2][0] - '0');
+        r(1);
+        printf("%lx %lx %s\n", (unsigned long)counted_from, (unsigned long)counted_to, calls[argv[1][0] - '0'].name);
+        counted_from();
+        r(1);
+        counted_to();
+        return 0;
+    }
+    if (agree(argc > 1 ? 300000 : 30000)) return 1;
+    table_of_times();
     return 0;
 }
