@@ -1,6 +1,6 @@
-// CRC-16 of lent bytes' bits (RULES 2.8): byte by byte, and the rest bit by bit.
+// CRC-16 of lent bytes' bits (RULES 2.8): by eight bytes, then byte by byte, and the rest bit by bit.
 ghost use mathlib.Core.Path.{_≡_};
-ghost use Prim.Native.Nat.{_*_, _≤_, _<_};
+ghost use Prim.Native.Nat.{_-_, _/_, _*_, _≤_, _<_};
 ghost use lib.ListN.{length};
 ghost use Rattle.bits.specs.Bits.{bitsFrom, bitsOf};
 ghost use Rattle.crc.specs.Crc.{crcOf, run, shift};
@@ -56,13 +56,27 @@ pub fn step64(r: u16, w: u64) -> u16
     ((q << 12 ^ q << 5 ^ q) % 65536) as u16
 }
 
+// The register after as many times eight bytes as n bits have.
+fn eights(bytes: &[u8], n: usize) -> u16
+    requires { ⌜ n ≤ 8 * length (now bytes) ⌝ }
+    ensures { λ r. ⌜ run r (bitsFrom (now (bytes .entry)) (64 * (n / 64)) (n - 64 * (n / 64))) ≡ run 0xFFFF (bitsFrom (now (bytes .entry)) 0 n) ⌝ }
+{
+    let mut r: u16 = 0xFFFF;
+    let mut k: usize = 0;
+    while k < n / 64 {
+        r = step64(r, bits::four_words(bytes, 4 * k));
+        k += 1;
+    }
+    r
+}
+
 // The CRC-16 of the first n bits.
 pub fn crc16(bytes: &[u8], n: usize) -> u16
     requires { ⌜ n ≤ 8 * length (now bytes) ⌝ }
     ensures { λ r. ⌜ r ≡ crcOf (bitsFrom (now (bytes .entry)) 0 n) ⌝ }
 {
-    let mut r: u16 = 0xFFFF;
-    let mut k: usize = 0;
+    let mut r = eights(bytes, n);
+    let mut k: usize = n / 64 * 8;
     while k < n / 8 {
         r = step8(r, bytes[k]);
         k += 1;

@@ -15,7 +15,9 @@ use Rattle.crc.proofs.Runs.{run-append}
 use Rattle.replies.specs.Pack.{filled, packed}
 use Rattle.replies.specs.Replies.{checked}
 use Rattle.bits.specs.Bits.{wordsBits}
-use Rattle.replies.specs.Steps.{withBytes, late, ended, twoWords, fourWords}
+use Rattle.replies.specs.Steps.{withBytes, late, ended}
+use Rattle.bits.specs.Steps.{fourWords}
+use Rattle.bits.proofs.Fours.{four-lt, words-four}
 use Rattle.replies.proofs.Laws.{packed-none}
 use Rattle.replies.proofs.Packing.{next, next-bytes}
 
@@ -101,34 +103,8 @@ one-more m from j {w = w} p e h q =
 
 -- four words more
 module _ (m : List ℕ) (known : (i : ℕ) → getD m i 0 < 256) where
-  two-lt : (i : ℕ) → twoWords m i < 2 ^ 32
-  unfolding twoWords
-  two-lt i = omega (arith, word-lt m i known, word-lt m (i + 1) known)
-
-  four-lt : (i : ℕ) → fourWords m i < 2 ^ 64
-  unfolding fourWords
-  four-lt i = omega (arith, two-lt i, two-lt (i + 2))
-
-  two-bits : (i : ℕ) → bitsOf 32 (twoWords m i) ≡ bitsOf 16 (wordAt m i) ++ bitsOf 16 (wordAt m (i + 1))
-  unfolding twoWords
-  two-bits i = bits-join 16 16 (wordAt m i) (wordAt m (i + 1)) (word-lt m (i + 1) known)
-
-  four-bits : (i : ℕ) → bitsOf 64 (fourWords m i)
-      ≡ (bitsOf 16 (wordAt m i) ++ bitsOf 16 (wordAt m (i + 1))) ++ (bitsOf 16 (wordAt m (i + 2)) ++ bitsOf 16 (wordAt m (i + 2 + 1)))
-  unfolding fourWords
-  four-bits i = bits-join 32 32 (twoWords m i) (twoWords m (i + 2)) (two-lt (i + 2)) ∙ ap₂ _++_ (two-bits i) (two-bits (i + 2))
-
-  words-four : (from j : ℕ) → wordsBits m from (j + 4) ≡ wordsBits m from j ++ bitsOf 64 (fourWords m (from + j))
-  unfolding wordsBits
-  words-four from j =
-      let e : j + 4 ≡ suc (suc (suc (suc j))) = omega arith in
-      let a : from + suc j ≡ from + j + 1 = omega arith in
-      let b : from + suc (suc j) ≡ from + j + 2 = omega arith in
-      let c : from + suc (suc (suc j)) ≡ from + j + 2 + 1 = omega arith in
-      rw (e, four-bits (from + j)) (simp (a, b, c, append-assoc))
-
   pub four-more : (from j : ℕ) {first room : List ℕ} {before r w s : ℕ} → Sent m from j first room before r → w ≡ fourWords m (from + j)
       → s ≡ run r (bitsOf 64 w) → Sent m from (j + 4) first (withBytes 8 room (2 * j) (late 63 before w)) w s
   four-more from j {w = w} p e q =
       let n : 2 * (j + 4) ≡ 2 * j + 8 = omega arith in
-      rw (n, words-four from j, ← e) (wrote p 63 8 w refl (rw e (four-lt (from + j))) q)
+      rw (n, words-four m known from j, ← e) (wrote p 63 8 w refl (rw e (four-lt m known (from + j))) q)

@@ -1,8 +1,7 @@
--- What the code makes on the way: bytes of numbers, numbers one bit late, words side by side. Assumes nothing.
+-- What the code makes on the way: bytes of numbers, numbers one bit late. Assumes nothing.
 use Prim.Native.Nat.{ℕ, zero, suc, _+_, _*_, _/_, _%_, _^_}
 use mathlib.Core.List.{List}
 use lib.ListN.{set}
-use Rattle.bits.specs.Words.{wordAt}
 
 -- a room with the k low bytes of v from byte i on, the highest first
 unfoldable pub withBytes : ℕ → List ℕ → ℕ → ℕ → List ℕ
@@ -16,10 +15,3 @@ late n before w = before % 2 * 2 ^ n + w / 2
 -- a room with a handle and a CRC-16 one bit late from byte i on, and the bit that is left
 unfoldable pub ended : List ℕ → ℕ → ℕ → ℕ → ℕ → List ℕ
 ended room i before handle sum = set (withBytes 4 room i (late 31 before (handle * 65536 + sum))) (i + 4) (sum % 2 * 128)
-
--- two words of an image as one number, and four
-unfoldable pub twoWords : List ℕ → ℕ → ℕ
-twoWords m i = wordAt m i * 2 ^ 16 + wordAt m (i + 1)
-
-unfoldable pub fourWords : List ℕ → ℕ → ℕ
-fourWords m i = twoWords m i * 2 ^ 32 + twoWords m (i + 2)

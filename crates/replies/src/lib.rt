@@ -8,7 +8,7 @@ ghost use Rattle.crc.specs.Crc.{run};
 ghost use Rattle.replies.specs.Replies.{replyBits, replyLength, replyBytes, replyEnd};
 ghost use Rattle.bits.specs.Bits.{wordsBits};
 ghost use Rattle.replies.specs.Pack.{packed};
-ghost use Rattle.replies.specs.Steps.{withBytes, late, ended, twoWords, fourWords};
+ghost use Rattle.replies.specs.Steps.{withBytes, late, ended};
 
 // A reply. Words are the image's: the first, and how many.
 pub enum Reply {
@@ -88,24 +88,6 @@ fn put_end(room: &mut [u8], i: usize, before: u64, register: u16, handle: u16)
     room[i + 4] = low_byte(sum % 2 * 128);
 }
 
-// Words i and i + 1 of an image as one number.
-fn two_words(image: &[u8], i: usize) -> u64
-    requires { ⌜ 2 * i + 3 < length (now image) ⌝ }
-    ensures { λ r. ⌜ (r ≡ twoWords (now (image .entry)) i) × (r < 2 ^ 32) ⌝ }
-{
-    ((from_byte(image[2 * i]) * 256 + from_byte(image[2 * i + 1])) * 256
-        + from_byte(image[2 * i + 2]))
-        * 256
-        + from_byte(image[2 * i + 3])
-}
-
-fn four_words(image: &[u8], i: usize) -> u64
-    requires { ⌜ 2 * i + 7 < length (now image) ⌝ }
-    ensures { λ r. ⌜ r ≡ fourWords (now (image .entry)) i ⌝ }
-{
-    two_words(image, i) * 0x1_0000_0000 + two_words(image, i + 2)
-}
-
 // A word from byte i on, one bit late; and four words.
 fn put_late(room: &mut [u8], i: usize, before: u64, w: u16)
     requires { ⌜ i + 1 < length (now room) ⌝ }
@@ -130,7 +112,7 @@ fn put_words(room: &mut [u8], image: &[u8], from: usize, count: usize, handle: u
     let mut register = crc::step(0xFFFF, 0);
     let mut j: usize = 0;
     while j + 4 <= count {
-        let w = four_words(image, from + j);
+        let w = bits::four_words(image, from + j);
         put_late_four(room, 2 * j, before, w);
         register = crc::step64(register, w);
         before = w;

@@ -3,7 +3,6 @@
 use Prim.Native.Nat.{ℕ, _-_, _/_, _*_, _≤_}
 use mathlib.Core.Path.{_≡_, ap}
 use native.Mathlib.Omega.{arith}
-use native.Mathlib.Nat.{sub-zero}
 use borrow.Author.Needs.{needs}
 use Rattle.bits.specs.Bits.{bitsFrom}
 use Rattle.crc.specs.Crc.{run, crcOf}
@@ -23,8 +22,17 @@ Inv-loop2 bytes n r₀ k i₀ r i = (i ≤ n) × (run r (bitsFrom bytes i (n - i
 abbrev μ-loop2 : tie.MeasureT-loop2
 μ-loop2 bytes n r₀ k i₀ r i = n - i
 
+eights-requires : tie.Need-eights-requires Inv-loop μ-loop Inv-loop2 μ-loop2
+eights-requires c κs = search needs
+
+mul-k : tie.Need-mul-k Inv-loop μ-loop Inv-loop2 μ-loop2
+mul-k c = search needs
+
 loop-holds : tie.Need-loop-holds Inv-loop μ-loop Inv-loop2 μ-loop2
-loop-holds c = (omega arith, rw sub-zero)
+loop-holds c =
+    let n = c .before .before .args .n in
+    let e : 64 * (n / 64) ≡ 8 * (n / 64 * 8) = omega arith in
+    (omega arith, rw e at (c .eights .ensures))
 
 shared-slice-read-step8 : tie.Need-shared-slice-read-step8 Inv-loop μ-loop Inv-loop2 μ-loop2
 shared-slice-read-step8 c = search needs
@@ -76,6 +84,8 @@ crc16-spec =
     μ-loop
     Inv-loop2
     μ-loop2
+    eights-requires
+    mul-k
     loop-holds
     shared-slice-read-step8
     step8-requires

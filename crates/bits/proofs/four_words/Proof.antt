@@ -1,8 +1,8 @@
--- `replies::four_words` meets its contract: twice two words. Assumes nothing.
-use Rattle.replies.specs.Steps.{fourWords}
+-- `bits::four_words` meets its contract: twice two words. Assumes nothing.
+use Rattle.bits.specs.Steps.{fourWords}
 use borrow.Author.Needs.{needs}
-use Rattle.replies.proofs.four_words.Statement.{statement}
-use Rattle.replies.proofs.four_words.Tie as tie
+use Rattle.bits.proofs.four_words.Statement.{statement}
+use Rattle.bits.proofs.four_words.Tie as tie
 
 returns : tie.Need-returns
 unfolding fourWords
