@@ -3,7 +3,7 @@
    Every call has an answer for any numbers and any bytes. What C must keep, in every call:
    - each pointer is valid for the bytes counted after it, and not null, even where the count is 0;
    - image, frame, words and room of one call do not overlap;
-   - no other thread touches them, nor the image, until the call returns.
+   - nothing else touches them until the call returns.
    The sizes fit a size_t; the library allocates nothing and keeps nothing between calls.
 
    Answers, by number (RULES 5). "Everything stays": image, session and room are as before.
