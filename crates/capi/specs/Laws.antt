@@ -3,9 +3,9 @@ use Prim.Native.Nat.{ℕ}
 use mathlib.Core.Path.{_≡_, refl, sym, ap, _∙_}
 use mathlib.Core.Bool.{Bool, true, false, not, _&&_}
 use mathlib.Core.List.{List}
-use native.Mathlib.Omega.{arith}
 use lib.Dec.{eqb}
 use borrow.Author.Tests.{eq-eqb, eqb-true}
+use Rattle.bits.proofs.Below.{and-left, and-right}
 use Rattle.tag.specs.declared.Cover.{Cover}
 use Rattle.tag.specs.declared.Cover.the-variants as cover
 use Rattle.tag.specs.declared.Half.{Half}
@@ -15,7 +15,6 @@ use Rattle.tag.specs.declared.State.the-variants as state
 use Rattle.tag.specs.declared.Live.{Live}
 use Rattle.tag.specs.declared.Power.{Power}
 use Rattle.tag.specs.declared.Power.the-variants as power
-use Rattle.tag.specs.declared.Session.{Session}
 use Rattle.tag.specs.Session.{offSession}
 use Rattle.tag.specs.Port.{bitOf}
 use Rattle.capi.specs.declared.Record.{Record}
@@ -55,8 +54,7 @@ again power.Off = refl
 again (power.On l) = rw (loose-again l (l .state) refl) (simp (same-self (recordIn l (l .state))))
 
 both-true : (a b : Bool) → (a && b) ≡ true → (a ≡ true) × (b ≡ true)
-both-true true b e = (refl, e)
-both-true false b e = absurd (let z : _≡_ {A = ℕ} 0 1 = ap bitOf e in omega (arith, z))
+both-true a b e = (and-left a b e, and-right a b e)
 
 same-is : (a b : Record) → same a b ≡ true → a ≡ b
 unfolding same

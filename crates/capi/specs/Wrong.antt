@@ -1,8 +1,8 @@
 -- Records that are no session, and for each exported operation two wrong answers that its promise rules out, computed (RULES 10.3 and 10.6). Assumes nothing.
 use Prim.Native.Nat.{ℕ}
 use mathlib.Core.Path.{_≡_, refl, sym, ap, _∙_}
-use mathlib.Core.Bool.{Bool, true, false}
-use mathlib.Core.List.{List, [], _∷_}
+use mathlib.Core.Bool.{true, false}
+use mathlib.Core.List.{[], _∷_}
 use native.Mathlib.Omega.{arith}
 use lib.ListN.{replicate}
 use Rattle.bits.specs.Words.{wordAt, withWord}

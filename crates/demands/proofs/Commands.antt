@@ -35,7 +35,7 @@ use Rattle.tag.specs.declared.State.{State}
 use Rattle.tag.specs.declared.State.the-variants as state
 use Rattle.tag.specs.declared.Session.{Session}
 use Rattle.tag.specs.Session.{offSession, on}
-use Rattle.tag.specs.Result.{Result}
+use Rattle.tag.specs.Result.{Result, leaves}
 use Rattle.tag.specs.Commands.{asksOf, linkOf, isSecured, isCovered, isKilled, wrong, wrongCommand, killWord, accessWord, breaks, codeOf, used, stateAfter, replyAfter, wordsAfter}
 use Rattle.tag.specs.Table.{Input, input, said, malformed, checksumWrong, broken, errorCode, newState, doneReply, doneWords, isError, replyOr, replyOf, storesOf, fits, replied, rows, frameOf, admitOf}
 use Rattle.tag.specs.Port.{badCount, badData, refusals, transferred, withKilled, withUnwritten, someUnwritten, writtenWords, readBits, portWords, askOf, releaseOf, registerOf, readOf, writeOf}
@@ -46,9 +46,6 @@ use Rattle.demands.proofs.Cuts.{started-so}
 
 -- the frame that was heard as x comes to the last row
 module _ (a : Air) (st : State) (r : Register) (idle : Idle (layoutOf (a .image)) (a .image)) where
-  y : Layout
-  y = layoutOf (a .image)
-
   handed : Input
   handed = input (on st false r) (a .image) (a .frame) (a .bits) (a .fresh) (a .room) (a .power)
 
@@ -134,9 +131,6 @@ module _ (a : Air) (st : State) (r : Register) (idle : Idle (layoutOf (a .image)
 
 -- an order that is heard, for the tag, whose halves are not broken and to which no code applies
 module _ (a : Air) (r : Register) (idle : Idle (layoutOf (a .image)) (a .image)) where
-  z : Layout
-  z = layoutOf (a .image)
-
   order-done : (st : State) (n : ℕ) (o : Order) → wrongCommand st (record { number = n; order = o }) ≡ false
       → breaks (layoutOf (a .image)) (a .image) (linkOf st) (linkOf st .half) (asksOf o .part) ≡ false
       → codeOf (layoutOf (a .image)) (a .image) (isSecured st) (linkOf st) (a .frame) o ≡ code.Nothing
@@ -256,7 +250,7 @@ module _ (m : List ℕ) (st : State) (r : Register) (idle : Idle (layoutOf m) m)
       → readOf (on st true r) m at n room ≡ transferred 0 (on st true (cond k (withKilled r) r)) (16 * n) 0 m (packed (readBits (layoutOf m) m k at n) room)
   unfolding readOf holder
   engine-read k at n room e a b c d =
-      let row : Rows = (transferred 4 (on st true r) 0 0 m room, ltb (length room) (2 * n)) ∷ [] in
+      let row : Rows = (leaves 4 (on st true r) m room, ltb (length room) (2 * n)) ∷ [] in
       none-first (refusals holder m room (badCount (layoutOf m) at n) ++ row) _
       (past room (badCount (layoutOf m) at n) row (count-good at n a b c) (le-ltb (length room) (2 * n) d, tt))
       ∙ ap (λ (t : Bool). transferred 0 (on st true (cond t (withKilled r) r)) (16 * n) 0 m (packed (readBits (layoutOf m) m t at n) room)) e

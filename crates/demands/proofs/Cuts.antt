@@ -101,9 +101,6 @@ count-of w n (x ∷ xs) e =
 
 module _ (y : Layout) (t : Tag) (c : Storing) (n enough : ℕ) (g : Good y (t .image)) (ws : List Store) (some : 1 ≤ n) (a : Acting y t c ws)
     (e : answerOf t (told c enough) .number ≡ 0) (d : answerOf t (told c enough) .stores ≡ 3 * n + 2) where
-  m : List ℕ
-  m = t .image
-
   whole : length (changeStores (y .work .at) ws) ≤ enough
   whole = a .whole enough e
 
@@ -163,9 +160,6 @@ started-so y m e = subst (λ (z : Layout). Start z m (after m (powerStores z m))
   where
     k : Good y m
     k = check-good m y e
-
-    z : Layout
-    z = layoutOf m
 
     g : Good (layoutOf m) m
     g = subst (λ (x : Layout). Good x m) (k .layout) k

@@ -21,9 +21,9 @@ use Rattle.stores.specs.Stores.{staged, finished, changeStores, settling, epcCr
 use Rattle.stores.proofs.Sane.{none-pending}
 use Rattle.stores.proofs.Cuts.{cuts, cut-pending, power-cut-pending, power-cut-good}
 use Rattle.tag.specs.declared.Session.{Session}
-use Rattle.tag.specs.Result.{Result}
-use Rattle.tag.specs.Port.{badCount, transferred, refusals, readOf}
-use Rattle.demands.specs.Calls.{Call, powerUp, admit, frame, ask, release, register, read, write, Tag, answerOf, imageAfter, run}
+use Rattle.tag.specs.Result.{Result, leaves}
+use Rattle.tag.specs.Port.{badCount, refusals, readOf}
+use Rattle.demands.specs.Calls.{Call, powerUp, admit, frame, ask, release, register, read, write, answerOf, imageAfter, run}
 use Rattle.demands.specs.Demands.{Storing, byRadio, byPort, told, Kept, AnyRun}
 use Rattle.demands.proofs.Sound.{Keeps, Sound, free-keeps}
 use Rattle.demands.proofs.Plans.{Plan, no-plan, plan-change}
@@ -231,9 +231,6 @@ change-step y m t z (x ∷ xs) p s =
 
 -- every call
 module _ (y : Layout) (m : List ℕ) (t : Steady y m) (v : Session) where
-  tag : Tag
-  tag = record { session = v; image = m }
-
   same-step : (n : List ℕ) → n ≡ m → Step y m n
   same-step n e = subst (Step y m) (sym e) (stay y m t)
 
@@ -248,7 +245,7 @@ module _ (y : Layout) (m : List ℕ) (t : Steady y m) (v : Session) where
   read-same : (at count : ℕ) (room : List ℕ) → readOf v m at count room .image ≡ m
   unfolding readOf
   read-same at count room =
-      first-each (λ (r : Result). r .image ≡ m) (refusals v m room (badCount (layoutOf m) at count) ++ ((transferred 4 v 0 0 m room, ltb (length room) (2 * count)) ∷ [])) _
+      first-each (λ (r : Result). r .image ≡ m) (refusals v m room (badCount (layoutOf m) at count) ++ ((leaves 4 v m room, ltb (length room) (2 * count)) ∷ [])) _
       (λ e. refl, (λ e. refl, (λ e. refl, (λ e. refl, (λ e. refl, (λ e. refl, (λ e. refl, tt))))))) refl
 
   step : (c : Call) → Step y m (imageAfter (record { session = v; image = m }) c)

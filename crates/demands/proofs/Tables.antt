@@ -14,7 +14,7 @@ use Rattle.bits.proofs.Below.{and-right, or-cases}
 use Rattle.image.specs.Layout.{layoutOf, within}
 use Rattle.image.specs.declared.Fit.{Fit}
 use Rattle.image.specs.declared.Fit.the-variants as fit
-use Rattle.image.specs.Check.{Checked, refused, good, meaning, short, headerWrong, contentBroken}
+use Rattle.image.specs.Check.{Checked, refused, good, meaning, imageRows}
 use Rattle.replies.specs.declared.Reply.{Reply}
 use Rattle.replies.specs.declared.Reply.the-variants as reply
 use Rattle.replies.specs.Replies.{replyBits, replyLength}
@@ -175,7 +175,7 @@ module _ (v : Session) (m : List ℕ) where
   unfolding readOf wordsBits tag-of
   read-tabled at count room =
       let c = read at count room in
-      first-each (Tabled tag-of c) (refusals v m room (badCount (layoutOf m) at count) ++ ((transferred 4 v 0 0 m room, ltb (length room) (2 * count)) ∷ [])) _
+      first-each (Tabled tag-of c) (refusals v m room (badCount (layoutOf m) at count) ++ ((leaves 4 v m room, ltb (length room) (2 * count)) ∷ [])) _
       (λ e. refusal tag-of c 1 refl, (λ e. refusal tag-of c 2 refl, (λ e. refusal tag-of c 3 refl, (λ e. refusal tag-of c 5 refl, (λ e. refusal tag-of c 6 refl, (λ e. refusal tag-of c 13 refl, (λ e. refusal tag-of c 4 refl, tt)))))))
       (zero-answer tag-of c _ refl (λ q. no-words (isKilled (liveOf (v .power) .state)) count (omega (arith, q))))
     where
@@ -243,8 +243,7 @@ module _ (t : Tag) where
       let stores = powerStores (layoutOf m) m in
       let c = powerUp s in
       first-each (Tabled t c)
-      ((poweredTo 1 offSession 0 m, short m) ∷ (poweredTo 2 offSession 0 m, headerWrong m) ∷ (poweredTo 3 offSession 0 m, contentBroken m)
-      ∷ (poweredTo 11 offSession s (after m (take s stores)), ltb s (length stores)) ∷ [])
+      (imageRows (λ n. leaves n offSession m []) m ++ ((poweredTo 11 offSession s (after m (take s stores)), ltb s (length stores)) ∷ []))
       (poweredTo 0 (newSession (firstIn (layoutOf m) (after m stores))) (length stores) (after m stores))
       (λ e. refusal t c 1 refl, (λ e. refusal t c 2 refl, (λ e. refusal t c 3 refl, (λ e. lost-answer t c (ltb-true _ _ e), tt)))) (zero-answer t c _ refl (λ q. refl))
 

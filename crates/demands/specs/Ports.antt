@@ -1,4 +1,4 @@
--- P12 (RULES 6.2) and the edges of the port, computed on the worked image; two wrong answers that the promise of a write rules out. Assumes nothing.
+-- The edges of the port, computed on the worked image; two wrong answers that the promise of a write rules out. Assumes nothing.
 use Prim.Native.Nat.{ℕ}
 use mathlib.Core.Path.{_≡_, refl, ap, sym, _∙_}
 use mathlib.Core.Bool.{Bool, true, false}
@@ -14,18 +14,16 @@ use Rattle.replies.specs.Pack.{filled, packed}
 use Rattle.stores.specs.Stores.{changeStores}
 use Rattle.tag.specs.declared.State.{State}
 use Rattle.tag.specs.declared.State.the-variants as state
-use Rattle.tag.specs.declared.Power.the-variants as power
 use Rattle.tag.specs.declared.Session.{Session}
 use Rattle.tag.specs.declared.Outcome.{Outcome}
-use Rattle.tag.specs.Session.{offSession, newSession}
+use Rattle.tag.specs.Session.{offSession, on, newSession}
 use Rattle.tag.specs.Result.{Result, result}
 use Rattle.tag.specs.Table.{answered}
 use Rattle.tag.specs.Port.{transferred, writtenWords, askOf, releaseOf, registerOf, readOf, writeOf}
 
 -- a session that holds the port, with its register's two bits
 abbrev pub holding : State → Bool → Bool → Session
-holding st unwritten killed =
-    record { power = power.On (record { state = st; held = true; register = record { unwritten = unwritten; killed = killed } }) }
+holding st unwritten killed = on st true (record { unwritten = unwritten; killed = killed })
 
 -- the worked image with block 0 of USER permalocked
 abbrev pub locked : List ℕ

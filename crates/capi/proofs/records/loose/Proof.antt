@@ -1,5 +1,5 @@
 -- `capi::records::loose` meets its contract: by its state. Assumes nothing.
-use borrow.Author.Tests.{eq-eqb, ne-eqb}
+use borrow.Author.Tests.{ne-eqb}
 use Rattle.capi.specs.Records.{looseOf}
 use borrow.Author.Needs.{needs}
 use Rattle.capi.proofs.records.loose.Statement.{statement}
