@@ -68,15 +68,6 @@ unfolding bitsOf
 byte-tail m k zero i e h = refl
 byte-tail m k (suc j) i e h = ap₂ _∷_ (bit-of m k i j (omega arith) (omega arith)) (byte-tail m k j (i + 1) (omega arith) (omega arith))
 
--- the bits that are left from byte k on are those of the byte, and those from the next one on
-pub next-byte : (m : List ℕ) (k n : ℕ) → 8 * (k + 1) ≤ n → bitsFrom m (8 * k) (n - 8 * k) ≡ bitsOf 8 (getD m k 0) ++ bitsFrom m (8 * (k + 1)) (n - 8 * (k + 1))
-next-byte m k n h =
-    let z : n - 8 * k ≡ 8 + (n - 8 * (k + 1)) = omega arith in
-    let y : 8 * k + 8 ≡ 8 * (k + 1) = omega arith in
-    ap (bitsFrom m (8 * k)) z
-    ∙ bits-append m (8 * k) 8 (n - 8 * (k + 1))
-    ∙ ap₂ _++_ (byte-tail m k 8 (8 * k) (omega arith) (omega arith)) (ap (λ (i : ℕ). bitsFrom m i (n - 8 * (k + 1))) y)
-
 -- a number's n low bits are 0 where it is a multiple of 2 ^ n
 no-part : (a p : ℕ) → a < 2 → 0 < p → a * p ≡ 0 → a ≡ 0
 no-part zero p h s e = refl

@@ -5,4 +5,3 @@ pub mod Below
 pub mod Stores
 pub mod Windows
 pub mod Fields
-pub mod Fours

@@ -56,11 +56,28 @@ module _ (m : List ℕ) (k : ℕ) (bytes : (i : ℕ) → getD m i 0 < 256) where
       ⊎-elim (λ b. (let z : t ≡ 8 + (t - 8) = omega arith in rw z (second i (t - 8) (omega arith) (omega arith))))
       (λ b. (let z : t ≡ 16 + (t - 16) = omega arith in rw z (first i (t - 16) (omega arith) (omega arith)))) (lt-or-ge t 16)) (lt-or-ge t 8)
 
-pub in-window : (m : List ℕ) (i n : ℕ) → ((j : ℕ) → getD m j 0 < 256) → n ≤ 16 → fieldAt m i n ≡ windowAt m (i / 8) / 2 ^ (24 - i % 8 - n) % 2 ^ n
+-- n bits from bit i on, s bits before the end of the window at byte k
+pub through-window : (m : List ℕ) (k i n s : ℕ) → ((j : ℕ) → getD m j 0 < 256) → i + n + s ≡ 8 * k + 24 → n + s ≤ 24 → fieldAt m i n ≡ windowAt m k / 2 ^ s % 2 ^ n
 unfolding fieldAt
-in-window m i n bytes h =
-    digits m (windowAt m (i / 8)) (24 - i % 8 - n) n i 0 0 (λ j t e. any m (i / 8) bytes (i + j) (24 - i % 8 - n + t) (omega arith) (omega arith)) (sym (mod-one _))
-    ∙ (let z : 0 + n ≡ n = omega arith in rw z)
+through-window m k i n s bytes e h =
+    digits m (windowAt m k) s n i 0 0 (λ j t q. any m k bytes (i + j) (s + t) (omega arith) (omega arith)) (sym (mod-one _)) ∙ (let z : 0 + n ≡ n = omega arith in rw z)
+
+pub in-window : (m : List ℕ) (i n : ℕ) → ((j : ℕ) → getD m j 0 < 256) → n ≤ 16 → fieldAt m i n ≡ windowAt m (i / 8) / 2 ^ (24 - i % 8 - n) % 2 ^ n
+in-window m i n bytes h = through-window m (i / 8) i n (24 - i % 8 - n) bytes (omega arith) (omega arith)
+
+-- the last 16 of the first n bits lie in the last three bytes of these
+pub in-last : (m : List ℕ) (n : ℕ) {a b c : ℕ} → ((j : ℕ) → getD m j 0 < 256) → 24 ≤ n → a ≡ getD m ((n - 1) / 8 - 2) 0 → b ≡ getD m ((n - 1) / 8 - 1) 0 → c ≡ getD m ((n - 1) / 8) 0
+    → ((a * 256 + b) * 256 + c) / 2 ^ (7 - (n - 1) % 8) % 65536 ≡ fieldAt m (n - 16) 16
+unfolding windowAt
+in-last m n bytes h p q r =
+    let k = (n - 1) / 8 in
+    let s = 7 - (n - 1) % 8 in
+    let e : k - 2 + 1 ≡ k - 1 = omega arith in
+    let f : k - 2 + 2 ≡ k = omega arith in
+    rw (p, q, r)
+    (sym
+    (through-window m (k - 2) (n - 16) 16 s bytes (omega arith) (omega arith)
+    ∙ ap₂ (λ (x y : ℕ). ((getD m (k - 2) 0 * 256 + getD m x 0) * 256 + getD m y 0) / 2 ^ s % 2 ^ 16) e f))
 
 -- the code's 2 ^ n does not wrap
 pub modulus : (n : ℕ) → n ≤ 16 → 1 * 2 ^ n % 4294967296 ≡ 2 ^ n

@@ -1,11 +1,11 @@
 // Words, bits and fields of lent bytes, the highest first. Past the end a byte reads 0, and a store there changes nothing.
 ghost use mathlib.Core.Path.{_≡_};
 ghost use mathlib.Core.Bool.{_&&_, _||_};
-ghost use Prim.Native.Nat.{_+_, _*_, _^_, _≤_, _<_};
+ghost use Prim.Native.Nat.{_+_, _-_, _*_, _^_, _≤_, _<_};
 ghost use lib.ListN.{length, getD, set};
 ghost use Rattle.bits.specs.Words.{wordAt, withWord};
 ghost use Rattle.bits.specs.Bits.{bitAt, fieldAt};
-ghost use Rattle.bits.specs.Steps.{windowAt, twoWords, fourWords};
+ghost use Rattle.bits.specs.Steps.{windowAt};
 
 // Byte i.
 pub fn byte(bytes: &[u8], i: usize) -> u8
@@ -29,15 +29,32 @@ fn wide(b: u8) -> u16
     b as u16
 }
 
+// Word i of bytes that have it.
+pub fn word_in(bytes: &[u8], i: usize) -> u16
+    requires { ⌜ 2 * i + 1 < length (now bytes) ⌝ }
+    ensures { λ r. ⌜ r ≡ wordAt (now (bytes .entry)) i ⌝ }
+{
+    wide(bytes[2 * i]) * 256 + wide(bytes[2 * i + 1])
+}
+
 // Word i; one test does for both bytes where they are there.
 pub fn word(bytes: &[u8], i: usize) -> u16
     requires { ⌜ i < 2 ^ 62 ⌝ }
     ensures { λ r. ⌜ r ≡ wordAt (now (bytes .entry)) i ⌝ }
 {
     if 2 * i + 1 < bytes.len() {
-        return wide(bytes[2 * i]) * 256 + wide(bytes[2 * i + 1]);
+        return word_in(bytes, i);
     }
     wide(byte(bytes, 2 * i)) * 256 + wide(byte(bytes, 2 * i + 1))
+}
+
+// Stores v as word i of bytes that have it.
+pub fn store_word_in(bytes: &mut [u8], i: usize, v: u16)
+    requires { ⌜ 2 * i + 1 < length (now bytes) ⌝ }
+    ensures { λ _. ⌜ now (bytes .exit) ≡ withWord (now (bytes .entry)) i v ⌝ }
+{
+    bytes[2 * i] = (v / 256) as u8;
+    bytes[2 * i + 1] = (v % 256) as u8;
 }
 
 // Stores v as word i.
@@ -46,8 +63,7 @@ pub fn store_word(bytes: &mut [u8], i: usize, v: u16)
     ensures { λ _. ⌜ now (bytes .exit) ≡ withWord (now (bytes .entry)) i v ⌝ }
 {
     if 2 * i + 1 < bytes.len() {
-        bytes[2 * i] = (v / 256) as u8;
-        bytes[2 * i + 1] = (v % 256) as u8;
+        store_word_in(bytes, i, v);
         return;
     }
     store_byte(bytes, 2 * i, (v / 256) as u8);
@@ -84,21 +100,29 @@ fn widest(b: u8) -> u64
     b as u64
 }
 
-// Words i and i + 1 as one number.
-fn two_words(bytes: &[u8], i: usize) -> u64
-    requires { ⌜ 2 * i + 3 < length (now bytes) ⌝ }
-    ensures { λ r. ⌜ (r ≡ twoWords (now (bytes .entry)) i) × (r < 2 ^ 32) ⌝ }
+// The four bytes from byte i on, as one number.
+fn four_bytes(bytes: &[u8], i: usize) -> u64
+    requires { ⌜ i + 3 < length (now bytes) ⌝ }
+    ensures { λ r. ⌜ (r ≡ fieldAt (now (bytes .entry)) (8 * i) 32) × (r < 2 ^ 32) ⌝ }
 {
-    ((widest(bytes[2 * i]) * 256 + widest(bytes[2 * i + 1])) * 256 + widest(bytes[2 * i + 2])) * 256
-        + widest(bytes[2 * i + 3])
+    ((widest(bytes[i]) * 256 + widest(bytes[i + 1])) * 256 + widest(bytes[i + 2])) * 256
+        + widest(bytes[i + 3])
+}
+
+// Eight.
+pub fn eight_bytes(bytes: &[u8], i: usize) -> u64
+    requires { ⌜ i + 7 < length (now bytes) ⌝ }
+    ensures { λ r. ⌜ r ≡ fieldAt (now (bytes .entry)) (8 * i) 64 ⌝ }
+{
+    four_bytes(bytes, i) * 0x1_0000_0000 + four_bytes(bytes, i + 4)
 }
 
 // Words i to i + 3 as one number.
 pub fn four_words(bytes: &[u8], i: usize) -> u64
     requires { ⌜ 2 * i + 7 < length (now bytes) ⌝ }
-    ensures { λ r. ⌜ r ≡ fourWords (now (bytes .entry)) i ⌝ }
+    ensures { λ r. ⌜ r ≡ fieldAt (now (bytes .entry)) (16 * i) 64 ⌝ }
 {
-    two_words(bytes, i) * 0x1_0000_0000 + two_words(bytes, i + 2)
+    eight_bytes(bytes, 2 * i)
 }
 
 // The number that the n bits from bit `at` on denote. They lie in a window of three bytes.
@@ -107,6 +131,16 @@ pub fn field(bytes: &[u8], at: usize, n: usize) -> u16
     ensures { λ r. ⌜ (r ≡ fieldAt (now (bytes .entry)) at n) × (r < 2 ^ n) ⌝ }
 {
     ((window(bytes, at / 8) >> (24 - at % 8 - n)) % (1 << n)) as u16
+}
+
+// The last 16 of the first n bits. They lie in the last three bytes of these bits.
+pub fn last_word(bytes: &[u8], n: usize) -> u16
+    requires { ⌜ (24 ≤ n) × (n ≤ 8 * length (now bytes)) ⌝ }
+    ensures { λ r. ⌜ r ≡ fieldAt (now (bytes .entry)) (n - 16) 16 ⌝ }
+{
+    let k = (n - 1) / 8;
+    let v = (wider(bytes[k - 2]) * 256 + wider(bytes[k - 1])) * 256 + wider(bytes[k]);
+    ((v >> (7 - (n - 1) % 8)) % 65536) as u16
 }
 
 // `&&` as a call: a caller then has one path, and one equation for the test.

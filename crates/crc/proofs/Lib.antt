@@ -2,3 +2,4 @@ pub mod Xor
 pub mod Linear
 pub mod Steps
 pub mod Runs
+pub mod Tails

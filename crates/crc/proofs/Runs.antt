@@ -1,20 +1,28 @@
--- Runs of the register, in turns of one bit, of one byte and of eight. Assumes nothing.
+-- Runs of the register, in turns of one bit and of eight bytes. Assumes nothing.
 use Prim.Native.Nat.{ℕ, suc, _+_, _-_, _*_, _/_, _<_, _≤_}
-use mathlib.Core.Path.{_≡_, refl, ap, ap₂, _∙_}
+use mathlib.Core.Path.{_≡_, refl, sym, ap, ap₂, _∙_}
 use mathlib.Core.List.{List, [], _∷_, _++_}
 use native.Mathlib.Omega.{arith}
 use lib.ListN.{getD}
-use Rattle.bits.specs.Bits.{bitsFrom, bitAt, bitsOf}
-use Rattle.bits.specs.Steps.{fourWords}
-use Rattle.bits.proofs.Bits.{bits-append, next-byte}
-use Rattle.bits.proofs.Fours.{four-from}
+use Rattle.bits.specs.Bits.{bitsFrom, bitAt, bitsOf, fieldAt}
+use Rattle.bits.specs.Words.{wordAt}
+use Rattle.bits.proofs.Bits.{bits-append, word-bits, byte-tail}
+use Rattle.bits.proofs.Fields.{field-bits}
 use Rattle.crc.specs.Crc.{run, shift}
 
 pub run-append : (r : ℕ) (xs ys : List ℕ) → run r (xs ++ ys) ≡ run (run r xs) ys
 run-append r [] ys = refl
 run-append r (x ∷ xs) ys = run-append (shift r x) xs ys
 
--- what an invariant over the bits that are left gives after one bit more, after one byte more, and at the end
+-- a word and a byte are 24 bits
+pub word-byte : (m : List ℕ) (n f : ℕ) {w r s : ℕ} → n ≡ 24 → getD m 1 0 < 256 → w ≡ wordAt m 0 → r ≡ run f (bitsOf 16 w) → s ≡ run r (bitsOf 8 (getD m 2 0)) → s ≡ run f (bitsFrom m 0 n)
+word-byte m n f {w} e known p q h =
+    let l = bitsOf 8 (getD m 2 0) in
+    let parts : bitsFrom m 0 (16 + 8) ≡ bitsOf 16 w ++ l =
+    bits-append m 0 16 8 ∙ ap₂ _++_ (word-bits m 0 known ∙ ap (bitsOf 16) (sym p)) (byte-tail m 2 8 16 (omega arith) (omega arith)) in
+    h ∙ ap (λ (x : ℕ). run x l) q ∙ sym (run-append f (bitsOf 16 w) l) ∙ ap (run f) (sym parts ∙ ap (bitsFrom m 0) (sym e))
+
+-- what an invariant over the bits that are left gives after one bit more, after eight bytes more, and at the end
 module _ (m : List ℕ) (n r : ℕ) {w : ℕ} where
   pub turn : (i : ℕ) {s b : ℕ} → i < n → s ≡ shift r b → b ≡ bitAt m i → run r (bitsFrom m i (n - i)) ≡ w
       → run s (bitsFrom m (i + 1) (n - (i + 1))) ≡ w
@@ -22,20 +30,16 @@ module _ (m : List ℕ) (n r : ℕ) {w : ℕ} where
       let z : n - i ≡ suc (n - (i + 1)) = omega arith in
       rw (p, q) (rw z at e)
 
-  pub byte-turn : (k : ℕ) {s : ℕ} → k < n / 8 → s ≡ run r (bitsOf 8 (getD m k 0)) → run r (bitsFrom m (8 * k) (n - 8 * k)) ≡ w
-      → run s (bitsFrom m (8 * (k + 1)) (n - 8 * (k + 1))) ≡ w
-  byte-turn k h p e = rw (p, ← run-append) (rw (next-byte m k n (omega arith)) at e)
-
-  pub eight-turn : ((i : ℕ) → getD m i 0 < 256) → (k : ℕ) {s v : ℕ} → k < n / 64 → v ≡ fourWords m (4 * k) → s ≡ run r (bitsOf 64 v)
+  pub eight-turn : (k : ℕ) {s v : ℕ} → k < n / 64 → v ≡ fieldAt m (8 * (8 * k)) 64 → s ≡ run r (bitsOf 64 v)
       → run r (bitsFrom m (64 * k) (n - 64 * k)) ≡ w → run s (bitsFrom m (64 * (k + 1)) (n - 64 * (k + 1))) ≡ w
-  eight-turn known k h q p e =
+  eight-turn k {v = v} h q p e =
       let z : n - 64 * k ≡ 64 + (n - 64 * (k + 1)) = omega arith in
       let a : 64 * k + 64 ≡ 64 * (k + 1) = omega arith in
-      let b : 64 * k ≡ 16 * (4 * k) = omega arith in
-      let eight : bitsFrom m (64 * k) 64 ≡ bitsOf 64 (fourWords m (4 * k)) = ap (λ (x : ℕ). bitsFrom m x 64) b ∙ four-from m known (4 * k) in
-      let parts : bitsFrom m (64 * k) (n - 64 * k) ≡ bitsOf 64 (fourWords m (4 * k)) ++ bitsFrom m (64 * (k + 1)) (n - 64 * (k + 1)) =
-      ap (bitsFrom m (64 * k)) z ∙ bits-append m (64 * k) 64 (n - 64 * (k + 1)) ∙ ap₂ (λ (x : List ℕ) (i : ℕ). x ++ bitsFrom m i (n - 64 * (k + 1))) eight a in
-      rw (p, q, ← run-append) (rw parts at e)
+      let b : 8 * (8 * k) ≡ 64 * k = omega arith in
+      let eight : bitsOf 64 v ≡ bitsFrom m (64 * k) 64 = ap (bitsOf 64) q ∙ field-bits m (8 * (8 * k)) 64 ∙ ap (λ (x : ℕ). bitsFrom m x 64) b in
+      let parts : bitsFrom m (64 * k) (n - 64 * k) ≡ bitsOf 64 v ++ bitsFrom m (64 * (k + 1)) (n - 64 * (k + 1)) =
+      ap (bitsFrom m (64 * k)) z ∙ bits-append m (64 * k) 64 (n - 64 * (k + 1)) ∙ ap₂ (λ (x : List ℕ) (i : ℕ). x ++ bitsFrom m i (n - 64 * (k + 1))) (sym eight) a in
+      rw (p, ← run-append) (rw parts at e)
 
   pub done : (i : ℕ) → n ≤ i → run r (bitsFrom m i (n - i)) ≡ w → r ≡ w
   done i h e = let z : n - i ≡ 0 = omega arith in rw z at e

@@ -84,6 +84,23 @@ shifts-linear n =
           ∙ run-linear (bitsOf n a) (bitsOf n b) (a / 2 ^ n % 65536) (b / 2 ^ n % 65536) (omega arith) (omega arith) (bits-of n a) (bits-of n b) (same-bits n a b);
     }
 
+-- n shifts of the register 0
+pub zero-linear : (n : ℕ) → Linear (λ u. run 0 (bitsOf n u))
+zero-linear n =
+    record {
+      sums = λ a b.
+          ap (run 0) (sym (zip-bits n a b))
+          ∙ run-linear (bitsOf n a) (bitsOf n b) 0 0 (omega arith) (omega arith) (bits-of n a) (bits-of n b) (same-bits n a b);
+    }
+
+unfoldable pub alone : ℕ → (ℕ → ℕ) → ℕ → Bool
+alone n code i = eqb (run 0 (bitsOf n (2 ^ i))) (code (2 ^ i))
+
+pub from-zero : (n : ℕ) (code : ℕ → ℕ) → Linear code → every (alone n code) n ≡ true → (w : ℕ) → w < 2 ^ n → run 0 (bitsOf n w) ≡ code w
+unfolding alone
+from-zero n code l t =
+    agree n (zero-linear n) l (λ i h. eqb-true (run 0 (bitsOf n (2 ^ i))) (code (2 ^ i)) (every-at (alone n code) n t i h))
+
 -- the test at the single bits
 unfoldable pub test : ℕ → (ℕ → ℕ → ℕ) → ℕ → Bool
 test n code i = eqb (shifts n (2 ^ i)) (code (2 ^ i / 2 ^ n) (2 ^ i % 2 ^ n))

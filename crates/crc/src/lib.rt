@@ -1,8 +1,8 @@
-// CRC-16 of lent bytes' bits (RULES 2.8): by eight bytes, then byte by byte, and the rest bit by bit.
+// CRC-16 of lent bytes' bits (RULES 2.8): by eight bytes, then the rest at once, or bit by bit where it is under 16 bits.
 ghost use mathlib.Core.Path.{_≡_};
-ghost use Prim.Native.Nat.{_-_, _/_, _*_, _≤_, _<_};
+ghost use Prim.Native.Nat.{_+_, _-_, _/_, _*_, _≤_, _<_};
 ghost use lib.ListN.{length};
-ghost use Rattle.bits.specs.Bits.{bitsFrom, bitsOf};
+ghost use Rattle.bits.specs.Bits.{bitsFrom, bitsOf, fieldAt};
 ghost use Rattle.crc.specs.Crc.{crcOf, run, shift};
 
 // One shift of the register r by the bit b.
@@ -44,16 +44,48 @@ fn wider(x: u16) -> u64
     x as u64
 }
 
-// Sixty-four, by the bits of w: the quotient q is made by four sparse factors.
-pub fn step64(r: u16, w: u64) -> u16
-    ensures { λ s. ⌜ s ≡ run r (bitsOf 64 w) ⌝ }
+// Sixty-four of the register 0, by the bits of x: the quotient q is made by four sparse factors.
+fn rest(x: u64) -> u16
+    ensures { λ s. ⌜ s ≡ run 0 (bitsOf 64 x) ⌝ }
 {
-    let x = wider(r) << 48 ^ w;
     let a = x ^ x >> 32;
     let b = a ^ a >> 16 ^ a >> 44;
     let c = b ^ b >> 8 ^ b >> 22 ^ b >> 32;
     let q = c ^ c >> 4 ^ c >> 11 ^ c >> 16;
     ((q << 12 ^ q << 5 ^ q) % 65536) as u16
+}
+
+// Sixty-four, by the bits of w.
+pub fn step64(r: u16, w: u64) -> u16
+    ensures { λ s. ⌜ s ≡ run r (bitsOf 64 w) ⌝ }
+{
+    rest(wider(r) << 48 ^ w)
+}
+
+fn widest(b: u8) -> u64
+    ensures { λ r. ⌜ (r ≡ b) × (r < 256) ⌝ }
+{
+    b as u64
+}
+
+// The number that the k bits from byte `at` on denote.
+fn tail(bytes: &[u8], at: usize, k: usize) -> u64
+    requires { ⌜ (16 ≤ k) × (k < 64) × (8 * at + k ≤ 8 * length (now bytes)) ⌝ }
+    ensures { λ r. ⌜ r ≡ fieldAt (now (bytes .entry)) (8 * at) k ⌝ }
+{
+    if at + 8 <= bytes.len() {
+        return bits::eight_bytes(bytes, at) >> (64 - k);
+    }
+    let mut v: u64 = 0;
+    let mut i: usize = 0;
+    while i < k / 8 {
+        v = v * 256 + widest(bytes[at + i]);
+        i += 1;
+    }
+    if k % 8 == 0 {
+        return v;
+    }
+    (v << (k % 8)) + (widest(bytes[at + i]) >> (8 - k % 8))
 }
 
 // The register after as many times eight bytes as n bits have.
@@ -64,7 +96,7 @@ fn eights(bytes: &[u8], n: usize) -> u16
     let mut r: u16 = 0xFFFF;
     let mut k: usize = 0;
     while k < n / 64 {
-        r = step64(r, bits::four_words(bytes, 4 * k));
+        r = step64(r, bits::eight_bytes(bytes, 8 * k));
         k += 1;
     }
     r
@@ -75,13 +107,16 @@ pub fn crc16(bytes: &[u8], n: usize) -> u16
     requires { ⌜ n ≤ 8 * length (now bytes) ⌝ }
     ensures { λ r. ⌜ r ≡ crcOf (bitsFrom (now (bytes .entry)) 0 n) ⌝ }
 {
-    let mut r = eights(bytes, n);
-    let mut k: usize = n / 64 * 8;
-    while k < n / 8 {
-        r = step8(r, bytes[k]);
-        k += 1;
+    // A Req_RN's bits.
+    if n == 24 {
+        return !step8(step16(0xFFFF, bits::word_in(bytes, 0)), bytes[2]);
     }
-    let mut i = 8 * k;
+    let mut r = eights(bytes, n);
+    let k = n % 64;
+    if k >= 16 {
+        return !rest(wider(r) << (k - 16) ^ tail(bytes, n / 64 * 8, k));
+    }
+    let mut i = n / 64 * 64;
     while i < n {
         r = step(r, bits::bit(bytes, i));
         i += 1;

@@ -42,11 +42,11 @@ pub enum Heard {
 
 // The order in a frame of exactly k bits, with the number before the CRC-16.
 fn exact(frame: &[u8], n: usize, k: usize, order: Order) -> Heard
-    requires { ⌜ 32 ≤ k ⌝ }
+    requires { ⌜ (40 ≤ k) × (n ≤ 8 * length (now frame)) ⌝ }
     ensures { λ r. ⌜ r ≡ exactly (now (frame .entry)) n k order ⌝ }
 {
     if n == k {
-        let number = bits::field(frame, n - 32, 16);
+        let number = bits::last_word(frame, n - 16);
         Heard::Said(Command { number, order })
     } else {
         Heard::Malformed
@@ -82,12 +82,14 @@ fn nak(n: usize) -> Heard
 }
 
 fn req_rn(frame: &[u8], n: usize) -> Heard
+    requires { ⌜ n ≤ 8 * length (now frame) ⌝ }
     ensures { λ r. ⌜ r ≡ reqRnOf (now (frame .entry)) n ⌝ }
 {
     exact(frame, n, 40, Order::ReqRn)
 }
 
 fn read(frame: &[u8], n: usize) -> Heard
+    requires { ⌜ n ≤ 8 * length (now frame) ⌝ }
     ensures { λ r. ⌜ r ≡ readOf (now (frame .entry)) n ⌝ }
 {
     let Pointer::Whole { value, bytes } = ebv::read(frame, n, 10) else {
@@ -99,6 +101,7 @@ fn read(frame: &[u8], n: usize) -> Heard
 }
 
 fn write(frame: &[u8], n: usize) -> Heard
+    requires { ⌜ n ≤ 8 * length (now frame) ⌝ }
     ensures { λ r. ⌜ r ≡ writeOf (now (frame .entry)) n ⌝ }
 {
     let Pointer::Whole { value, bytes } = ebv::read(frame, n, 10) else {
@@ -116,12 +119,14 @@ fn write(frame: &[u8], n: usize) -> Heard
 }
 
 fn kill(frame: &[u8], n: usize) -> Heard
+    requires { ⌜ n ≤ 8 * length (now frame) ⌝ }
     ensures { λ r. ⌜ r ≡ killOf (now (frame .entry)) n ⌝ }
 {
     exact(frame, n, 59, Order::Kill(bits::field(frame, 8, 16)))
 }
 
 fn lock(frame: &[u8], n: usize) -> Heard
+    requires { ⌜ n ≤ 8 * length (now frame) ⌝ }
     ensures { λ r. ⌜ r ≡ lockOf (now (frame .entry)) n ⌝ }
 {
     let mask = bits::field(frame, 8, 10);
@@ -130,12 +135,14 @@ fn lock(frame: &[u8], n: usize) -> Heard
 }
 
 fn access(frame: &[u8], n: usize) -> Heard
+    requires { ⌜ n ≤ 8 * length (now frame) ⌝ }
     ensures { λ r. ⌜ r ≡ accessOf (now (frame .entry)) n ⌝ }
 {
     exact(frame, n, 56, Order::Access(bits::field(frame, 8, 16)))
 }
 
 fn block_write(frame: &[u8], n: usize) -> Heard
+    requires { ⌜ n ≤ 8 * length (now frame) ⌝ }
     ensures { λ r. ⌜ r ≡ blockWriteOf (now (frame .entry)) n ⌝ }
 {
     let Pointer::Whole { value, bytes } = ebv::read(frame, n, 10) else {
@@ -152,6 +159,7 @@ fn block_write(frame: &[u8], n: usize) -> Heard
 }
 
 fn block_erase(frame: &[u8], n: usize) -> Heard
+    requires { ⌜ n ≤ 8 * length (now frame) ⌝ }
     ensures { λ r. ⌜ r ≡ blockEraseOf (now (frame .entry)) n ⌝ }
 {
     let Pointer::Whole { value, bytes } = ebv::read(frame, n, 10) else {
@@ -163,6 +171,7 @@ fn block_erase(frame: &[u8], n: usize) -> Heard
 }
 
 fn permalock(frame: &[u8], n: usize) -> Heard
+    requires { ⌜ n ≤ 8 * length (now frame) ⌝ }
     ensures { λ r. ⌜ r ≡ permalockOf (now (frame .entry)) n ⌝ }
 {
     let Pointer::Whole { value, bytes } = ebv::read(frame, n, 19) else {
@@ -183,7 +192,7 @@ fn permalock(frame: &[u8], n: usize) -> Heard
 }
 
 // What a frame of this code says.
-fn by_code(frame: &[u8], n: usize, code: u16) -> Heard
+fn by_code(frame: &[u8], n: usize, code: u8) -> Heard
     requires { ⌜ (8 ≤ n) × (n ≤ 8 * length (now frame)) × (code ≡ fieldAt (now frame) 0 8) ⌝ }
     ensures { λ r. ⌜ r ≡ heardOf (now (frame .entry)) n ⌝ }
 {
@@ -206,14 +215,13 @@ fn by_code(frame: &[u8], n: usize, code: u16) -> Heard
 pub fn hear(frame: &[u8], n: usize) -> Heard
     ensures { λ r. ⌜ r ≡ heardOf (now (frame .entry)) n ⌝ }
 {
-    let bytes = n / 8 + (n % 8 + 7) / 8;
-    if frame.len() < bytes {
-        return Heard::Malformed;
-    }
     if n < 8 {
         return Heard::Malformed;
     }
-    let code = bits::field(frame, 0, 8);
+    if frame.len() <= (n - 1) / 8 {
+        return Heard::Malformed;
+    }
+    let code = frame[0];
     match code {
         0xC0..=0xC9 => by_code(frame, n, code),
         _ => Heard::Malformed,
@@ -222,8 +230,8 @@ pub fn hear(frame: &[u8], n: usize) -> Heard
 
 // Whether the CRC-16 at a frame's end is that of the bits before it.
 pub fn checksum_right(frame: &[u8], n: usize) -> bool
-    requires { ⌜ (16 ≤ n) × (n ≤ 8 * length (now frame)) ⌝ }
+    requires { ⌜ (24 ≤ n) × (n ≤ 8 * length (now frame)) ⌝ }
     ensures { λ r. ⌜ r ≡ checksumRight (now (frame .entry)) n ⌝ }
 {
-    bits::field(frame, n - 16, 16) == crc::crc16(frame, n - 16)
+    bits::last_word(frame, n) == crc::crc16(frame, n - 16)
 }

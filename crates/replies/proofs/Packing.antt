@@ -3,18 +3,15 @@ use Prim.Native.Nat.{ℕ, zero, suc, _+_, _*_, _/_, _%_, _^_, _<_, _≤_}
 use mathlib.Core.Path.{_≡_, refl, sym, ap, ap₂, _∙_}
 use mathlib.Core.List.{List, [], _∷_, _++_, append-assoc, append-nil}
 use native.Mathlib.Nat.{add-suc, add-zero, div-one}
-use native.Mathlib.Numerals.{add-one}
 use native.Mathlib.Omega.{arith}
 use lib.ListN.{length, getD, drop, set, replicate, length-append, length-replicate, length-drop, drop-of-length-le, replicate-append-replicate}
 use lib.Seq.{drop-append-le}
 use lib.Pow.{mod-pow-add, shr-shr}
-use Rattle.bits.specs.Words.{wordAt}
-use Rattle.bits.specs.Bits.{bitsOf}
-use Rattle.bits.proofs.Bits.{length-bits, bits-split}
+use Rattle.bits.specs.Bits.{bitsOf, bitsFrom, wordsBits}
+use Rattle.bits.proofs.Bits.{length-bits, bits-split, bits-append, byte-tail, words-bits}
 use Rattle.replies.specs.Pack.{filled, packed}
-use Rattle.bits.specs.Bits.{wordsBits}
 use Rattle.replies.specs.Steps.{withBytes}
-use Rattle.replies.proofs.Laws.{packed-none, length-words}
+use Rattle.replies.proofs.Laws.{packed-none}
 
 filled-bits : (w v : ℕ) → filled w (bitsOf w v) ≡ v % 2 ^ w
 unfolding bitsOf filled
@@ -68,18 +65,28 @@ bytes-split a (suc b) room i v =
     let q : v / 256 / 2 ^ (8 * b) ≡ v / 2 ^ (8 * suc b) = shr-shr v 8 (8 * b) ∙ ap (λ (n : ℕ). v / 2 ^ n) (sym e) in
     rw (add-suc a b, p, bytes-split a b room i (v / 256), q)
 
--- one word of an image more, and one byte of 0
-pub word-copied : (m : List ℕ) (from j : ℕ) (first : List ℕ) {room : List ℕ} → ((i : ℕ) → getD m i 0 < 256) → room ≡ packed (wordsBits m from j) first
-    → set (set room (2 * j) (getD m (2 * (from + j)) 0)) (2 * j + 1) (getD m (2 * (from + j) + 1) 0) ≡ packed (wordsBits m from (j + 1)) first
-unfolding wordsBits wordAt withBytes
-word-copied m from j first h e =
-    let a = getD m (2 * (from + j)) 0 in
-    let b = getD m (2 * (from + j) + 1) 0 in
-    let high : (a * 256 + b) / 256 % 256 ≡ a = omega (arith, h (2 * (from + j)), h (2 * (from + j) + 1)) in
-    let low : (a * 256 + b) % 256 ≡ b = omega (arith, h (2 * (from + j) + 1)) in
-    let l : length (wordsBits m from j) ≡ 8 * (2 * j) = length-words m from j ∙ omega arith in
-    rw (add-one j, e) (sym (next-bytes 2 (2 * j) (wordsBits m from j) (a * 256 + b) first l ∙ rw (high, low, add-zero)))
+length-from : (m : List ℕ) (i n : ℕ) → length (bitsFrom m i n) ≡ n
+length-from m i zero = refl
+length-from m i (suc n) = ap suc (length-from m (i + 1) n)
 
+-- one byte of an image more
+pub byte-copied : (m : List ℕ) (from k : ℕ) (room₀ : List ℕ) {room : List ℕ} → getD m (2 * from + k) 0 < 256 → room ≡ packed (bitsFrom m (16 * from) (8 * k)) room₀
+    → set room k (getD m (2 * from + k) 0) ≡ packed (bitsFrom m (16 * from) (8 * (k + 1))) room₀
+byte-copied m from k room₀ h e =
+    let b = getD m (2 * from + k) 0 in
+    let xs = bitsFrom m (16 * from) (8 * k) in
+    let n : 8 * (k + 1) ≡ 8 * k + 8 = omega arith in
+    let low : b % 256 ≡ b = omega (arith, h) in
+    rw (e, n, bits-append m (16 * from) (8 * k) 8, byte-tail m (2 * from + k) 8 (16 * from + 8 * k) (omega arith) (omega arith))
+    (sym (next-byte k xs b room₀ (length-from m (16 * from) (8 * k)) ∙ ap (set (packed xs room₀) k) low))
+
+-- words are the bits that stand there, if their bytes are bytes
+pub words-from : (m : List ℕ) (from count : ℕ) → (0 < 2 * count → (i : ℕ) → getD m i 0 < 256) → bitsFrom m (16 * from) (16 * count) ≡ wordsBits m from count
+unfolding wordsBits
+words-from m from zero h = refl
+words-from m from (suc count) h = words-bits m from (suc count) (h (omega arith))
+
+-- one byte of 0 more
 pub byte-zeroed : (k : ℕ) (first : List ℕ) {room : List ℕ} → room ≡ packed (replicate (8 * k) 0) first → set room k 0 ≡ packed (replicate (8 * (k + 1)) 0) first
 unfolding bitsOf
 byte-zeroed k first e =

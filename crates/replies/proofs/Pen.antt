@@ -6,8 +6,7 @@ use native.Mathlib.Numerals.{add-one}
 use native.Mathlib.Omega.{arith}
 use lib.ListN.{length, getD, set, length-append}
 use Rattle.bits.specs.Words.{wordAt}
-use Rattle.bits.specs.Bits.{bitsOf}
-use Rattle.bits.proofs.Words.{word-lt}
+use Rattle.bits.specs.Bits.{bitsOf, fieldAt}
 use Rattle.bits.proofs.Bits.{length-bits}
 use Rattle.bits.proofs.Digits.{bits-join, bits-late}
 use Rattle.crc.specs.Crc.{run, crcOf}
@@ -16,8 +15,7 @@ use Rattle.replies.specs.Pack.{filled, packed}
 use Rattle.replies.specs.Replies.{checked}
 use Rattle.bits.specs.Bits.{wordsBits}
 use Rattle.replies.specs.Steps.{withBytes, late, ended}
-use Rattle.bits.specs.Steps.{fourWords}
-use Rattle.bits.proofs.Fours.{four-lt, words-four}
+use Rattle.bits.proofs.Fields.{field-lt, words-four}
 use Rattle.replies.proofs.Laws.{packed-none}
 use Rattle.replies.proofs.Packing.{next, next-bytes}
 
@@ -103,8 +101,8 @@ one-more m from j {w = w} p e h q =
 
 -- four words more
 module _ (m : List ℕ) (known : (i : ℕ) → getD m i 0 < 256) where
-  pub four-more : (from j : ℕ) {first room : List ℕ} {before r w s : ℕ} → Sent m from j first room before r → w ≡ fourWords m (from + j)
+  pub four-more : (from j : ℕ) {first room : List ℕ} {before r w s : ℕ} → Sent m from j first room before r → w ≡ fieldAt m (16 * (from + j)) 64
       → s ≡ run r (bitsOf 64 w) → Sent m from (j + 4) first (withBytes 8 room (2 * j) (late 63 before w)) w s
   four-more from j {w = w} p e q =
       let n : 2 * (j + 4) ≡ 2 * j + 8 = omega arith in
-      rw (n, words-four m known from j, ← e) (wrote p 63 8 w refl (rw e (four-lt m known (from + j))) q)
+      rw (n, words-four m known from j, ← e) (wrote p 63 8 w refl (rw e (field-lt m (16 * (from + j)) 64)) q)

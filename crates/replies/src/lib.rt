@@ -5,31 +5,18 @@ ghost use Prim.Native.Nat.{_+_, _-_, _*_, _%_, _^_, _≤_, _<_};
 ghost use lib.ListN.{length, replicate};
 ghost use Rattle.bits.specs.Bits.{bitsOf};
 ghost use Rattle.crc.specs.Crc.{run};
-ghost use Rattle.replies.specs.Replies.{replyBits, replyLength, replyBytes, replyEnd};
+ghost use Rattle.replies.specs.Replies.{replyBits};
 ghost use Rattle.bits.specs.Bits.{wordsBits};
 ghost use Rattle.replies.specs.Pack.{packed};
 ghost use Rattle.replies.specs.Steps.{withBytes, late, ended};
 
-// A reply. Words are the image's: the first, and how many.
+// A reply, as the definitions name it. Words are the image's: the first, and how many.
 pub enum Reply {
     Silence,
     Number(u16),
     Success(u16),
     Words(u16, u16, u16),
     Error(u8, u16),
-}
-
-// How many bits a reply has.
-pub fn bit_count(reply: Reply) -> usize
-    ensures { λ n. ⌜ (n ≡ replyLength reply) × (n < 2 ^ 32) ⌝ }
-{
-    match reply {
-        Reply::Silence => 0,
-        Reply::Number(_) => 32,
-        Reply::Success(_) => 33,
-        Reply::Words(_, count, _) => 16 * (count as usize) + 33,
-        Reply::Error(_, _) => 41,
-    }
 }
 
 fn from_byte(b: u8) -> u64
@@ -104,7 +91,7 @@ fn put_late_four(room: &mut [u8], i: usize, before: u64, w: u64)
 }
 
 // A 0, words of the image, the handle and the CRC-16.
-fn put_words(room: &mut [u8], image: &[u8], from: usize, count: usize, handle: u16)
+pub fn put_words(room: &mut [u8], image: &[u8], from: usize, count: usize, handle: u16)
     requires { ⌜ (2 * (from + count) ≤ length (now image)) × (2 * count + 5 ≤ length (now room)) ⌝ }
     ensures { λ _. ⌜ now (room .exit) ≡ packed (replyBits (now (image .entry)) (Reply.Words from count handle)) (now (room .entry)) ⌝ }
 {
@@ -129,7 +116,7 @@ fn put_words(room: &mut [u8], image: &[u8], from: usize, count: usize, handle: u
 }
 
 // A 1, a code, the handle and the CRC-16.
-fn put_error(room: &mut [u8], code: u8, handle: u16)
+pub fn put_error(room: &mut [u8], code: u8, handle: u16)
     requires { ⌜ 5 < length (now room) ⌝ }
     ensures { λ _. ⌜ now (room .exit) ≡ packed (replyBits [] (Reply.Error code handle)) (now (room .entry)) ⌝ }
 {
@@ -139,7 +126,7 @@ fn put_error(room: &mut [u8], code: u8, handle: u16)
 }
 
 // A number and the CRC-16.
-fn put_number(room: &mut [u8], number: u16)
+pub fn put_number(room: &mut [u8], number: u16)
     requires { ⌜ 3 < length (now room) ⌝ }
     ensures { λ _. ⌜ now (room .exit) ≡ packed (replyBits [] (Reply.Number number)) (now (room .entry)) ⌝ }
 {
@@ -147,20 +134,12 @@ fn put_number(room: &mut [u8], number: u16)
     store_four(room, 0, from_word(number) * 0x10000 + sum);
 }
 
-// Packs a reply into the room.
-pub fn put(room: &mut [u8], image: &[u8], reply: Reply)
-    requires { ⌜ (2 * replyEnd reply ≤ length (now image)) × (replyBytes reply ≤ length (now room)) ⌝ }
-    ensures { λ _. ⌜ now (room .exit) ≡ packed (replyBits (now (image .entry)) reply) (now (room .entry)) ⌝ }
+// A 0, the handle and the CRC-16: words, none of them.
+pub fn put_success(room: &mut [u8], image: &[u8], handle: u16)
+    requires { ⌜ 5 ≤ length (now room) ⌝ }
+    ensures { λ _. ⌜ now (room .exit) ≡ packed (replyBits (now (image .entry)) (Reply.Success handle)) (now (room .entry)) ⌝ }
 {
-    match reply {
-        Reply::Silence => {}
-        Reply::Number(number) => put_number(room, number),
-        Reply::Success(handle) => put_words(room, image, 0, 0, handle),
-        Reply::Words(from, count, handle) => {
-            put_words(room, image, from as usize, count as usize, handle)
-        }
-        Reply::Error(code, handle) => put_error(room, code, handle),
-    }
+    put_words(room, image, 0, 0, handle);
 }
 
 // Packs words of the image alone, as the port gives them.
@@ -168,11 +147,12 @@ pub fn put_plain(room: &mut [u8], image: &[u8], from: usize, count: usize)
     requires { ⌜ (2 * (from + count) ≤ length (now image)) × (2 * count ≤ length (now room)) ⌝ }
     ensures { λ _. ⌜ now (room .exit) ≡ packed (wordsBits (now (image .entry)) from count) (now (room .entry)) ⌝ }
 {
-    let mut j: usize = 0;
-    while j < count {
-        room[2 * j] = image[2 * (from + j)];
-        room[2 * j + 1] = image[2 * (from + j) + 1];
-        j += 1;
+    let bytes = 2 * count;
+    let first = 2 * from;
+    let mut k: usize = 0;
+    while k < bytes {
+        room[k] = image[first + k];
+        k += 1;
     }
 }
 

@@ -1,13 +1,8 @@
 -- `bits::store_word` meets its contract: two bytes, the higher first. Assumes nothing.
-use mathlib.Core.Path.{refl}
 use Rattle.bits.specs.Words.{withWord}
 use borrow.Author.Needs.{needs}
 use Rattle.bits.proofs.store_word.Statement.{statement}
 use Rattle.bits.proofs.store_word.Tie as tie
-
-returns : tie.Need-returns
-unfolding withWord
-returns c = refl
 
 returns-2 : tie.Need-returns-2
 unfolding withWord
@@ -16,6 +11,5 @@ returns-2 c = rw (c .before .before .store-byte2 .ensures, c .before .before .be
 pub store-word-spec : {M : Type 1} → statement M
 store-word-spec =
     tie.close
-    (tie.spec (λ c. search needs) (λ c. search needs) (λ c. search needs) (λ c. search needs) (λ c. search needs) (λ c. search needs) (λ c. search needs)
-    (λ c. search needs) (λ c. search needs) (λ c. search needs) returns (λ c. search needs) (λ c. search needs) (λ c. search needs) (λ c. search needs)
-    (λ c. search needs) (λ c. search needs) (λ c. search needs) (λ c. search needs) returns-2)
+    (tie.spec (λ c. search needs) (λ c. search needs) (λ c κs. search needs) (λ c. search needs) (λ c. search needs) (λ c. search needs) (λ c. search needs)
+    (λ c κs. search needs) (λ c. search needs) (λ c. search needs) (λ c. search needs) (λ c κs. search needs) (λ c. search needs) returns-2)

@@ -1,10 +1,9 @@
 -- `crc::eights` meets its contract. Invariant: the register, run over the bits that are left, gives what the preset gives over all bits. Assumes nothing.
-use Prim.Native.Nat.{ℕ, _-_, _/_, _*_, _≤_, _<_}
-use mathlib.Core.Path.{_≡_, ap}
+use Prim.Native.Nat.{_-_, _/_, _*_, _≤_}
+use mathlib.Core.Path.{_≡_}
 use native.Mathlib.Omega.{arith}
 use native.Mathlib.Nat.{sub-zero}
 use denote.Ref.{now}
-use lib.ListN.{getD}
 use borrow.Author.Needs.{needs}
 use Rattle.bits.specs.Bits.{bitsFrom}
 use Rattle.crc.specs.Crc.{run}
@@ -21,27 +20,11 @@ abbrev μ-loop : tie.MeasureT-loop
 loop-holds : tie.Need-loop-holds Inv-loop μ-loop
 loop-holds c = (omega arith, rw sub-zero)
 
-mul-four-words : tie.Need-mul-four-words Inv-loop μ-loop
-mul-four-words c = search needs
-
-four-words-requires : tie.Need-four-words-requires Inv-loop μ-loop
-four-words-requires c κs = search needs
-
-step64-requires : tie.Need-step64-requires Inv-loop μ-loop
-step64-requires c κs = search needs
-
-add-k : tie.Need-add-k Inv-loop μ-loop
-add-k c = search needs
-
-loop-less : tie.Need-loop-less Inv-loop μ-loop
-loop-less c = search needs
-
 loop-again : tie.Need-loop-again Inv-loop μ-loop
 loop-again c =
     let a = c .before .before .before .before .before .args in
     let l = c .before .before .before .loop in
-    let known : (i : ℕ) → getD (now (a .bytes)) i 0 < 256 = λ i. omega (arith, c .before .before .before .before .shared-slice-known .given i) in
-    (omega arith, eight-turn (now (a .bytes)) (a .n) (l .r) known (l .k) (c .before .before .loop-test .taken) (c .before .four-words .ensures) (c .step64 .ensures) (l .inv .1))
+    (omega arith, eight-turn (now (a .bytes)) (a .n) (l .r) (l .k) (c .before .before .loop-test .taken) (c .before .eight-bytes .ensures) (c .step64 .ensures) (l .inv .1))
 
 returns : tie.Need-returns Inv-loop μ-loop
 returns c =
@@ -51,14 +34,5 @@ returns c =
 pub eights-spec : {M : Type 1} → statement M
 eights-spec =
     tie.close
-    (tie.spec
-    Inv-loop
-    μ-loop
-    loop-holds
-    mul-four-words
-    four-words-requires
-    step64-requires
-    add-k
-    loop-less
-    loop-again
-    returns)
+    (tie.spec Inv-loop μ-loop loop-holds (search needs) (search needs) (search needs) (search needs) (search needs)
+    loop-again returns)

@@ -6,9 +6,9 @@ use Rattle.frames.proofs.checksum_right.Tie as tie
 
 returns : tie.Need-returns
 unfolding checksumRight
-returns c = rw (c .crc16 .ensures, c .before .field .ensures .0)
+returns c = rw (c .crc16 .ensures, c .before .last-word .ensures)
 
 pub checksum-right-spec : {M : Type 1} → statement M
 checksum-right-spec =
     tie.close
-    (tie.spec (search needs) (search needs) (search needs) (search needs) returns)
+    (tie.spec (search needs) (search needs) (search needs) returns)
