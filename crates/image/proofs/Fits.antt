@@ -2,8 +2,8 @@
 use Prim.Native.Nat.{ℕ, _+_, _-_, _*_, _/_, _%_, _^_, _≤_, _<_}
 use mathlib.Core.Path.{_≡_, refl, sym, ap₂, subst}
 use mathlib.Core.Logic.{_⊎_, inl, inr, ⊎-elim}
-use mathlib.Core.Bool.{true, or-true}
-use mathlib.Core.List.{List, [], _∷_}
+use mathlib.Core.Bool.{true, _&&_, or-true}
+use mathlib.Core.List.{List}
 use native.Mathlib.Nat.{mod-one}
 use native.Mathlib.Omega.{arith}
 use native.Mathlib.Decide.{decLt}
@@ -11,16 +11,15 @@ use lib.Dec.{leb, ltb}
 use lib.ListN.{take}
 use borrow.Author.Tests.{ltb-true, leb-true, eqb-true, lt-ltb, le-leb, eq-eqb, ne-eqb}
 use Rattle.bits.specs.Words.{wordAt, Store, store, after}
-use Rattle.bits.specs.Below.{every}
 use Rattle.bits.proofs.Below.{and-left, and-right, and-both, or-cases, cond-test, same-test, every-at, every-all, all-each, each-all}
 use Rattle.bits.proofs.Bits.{low-zero, zero-low}
 use Rattle.bits.proofs.Stores.{Under, Fine, Fits, all-below, below-all, all-take, under-avoids, after-avoids, after-fine, fine-fits}
 use Rattle.image.specs.declared.Section.{Section}
 use Rattle.image.specs.declared.Layout.{Layout}
 use Rattle.image.specs.Layout.{end, blocksIn, pairsIn}
-use Rattle.image.specs.Content.{countIn, pairAt, pending, inside, mayGo, contentGood}
+use Rattle.image.specs.Content.{killedWord, countIn, pairAt, pending, inside, mayGo, contentGood}
 use Rattle.image.specs.Rules.{Header, Content}
-use Rattle.image.specs.Steps.{spareIn, mayStand, between, mayTake, wordFits, lastIn, wordsFit, pairFits, contentFits}
+use Rattle.image.specs.Steps.{spareIn, mayStand, between, mayTake, lastIn, wordRules, wordsFit, pairFits, contentSteps, contentFits}
 use Rattle.image.proofs.Rules.{content-both}
 
 -- v may stand at word i, as a fact
@@ -191,6 +190,13 @@ module _ (y : Layout) (h : List ℕ) (g : Header y h) where
       two (inl h) = (omega arith, omega arith)
       two (inr h) = (omega arith, omega arith)
 
+  -- from USER on, but for the word before WORK, any value may stand
+  pub free : (o v : ℕ) → between (y .user .at) o (lastIn y) ≡ true → mayTake y o && mayStand y o v ≡ true
+  free o v e =
+      let f = between-fact (y .user .at) o (lastIn y) e in
+      and-both (mayTake y o) _ (simp (between-test (y .user .at) o (y .work .at) (f .0) (omega arith), or-true))
+      (ok-if y o v (λ q. absurd (omega arith)) (λ q. absurd (omega arith)) (λ q. absurd (omega arith)) (λ q. absurd (omega arith)))
+
   -- the steps' tests hold where the rules do, and only there
   steps-if : ((k : ℕ) → Content y (after h (take k (pending y h)))) → contentFits y h ≡ true
   unfolding contentFits wordsFit
@@ -198,9 +204,9 @@ module _ (y : Layout) (h : List ℕ) (g : Header y h) where
       let f = content-fine h (c 0) in
       let under : Under (y .work .at) (pending y h) = all-below (λ s. s .at < y .work .at) (pairAt y h) (countIn y h) (λ j l. go-below _ (c 0 .places j l) .1) in
       let fits : Fits (Ok y) (pending y h) = fine-fits (Ok y) (y .work .at) h (pending y h) (omega (arith, g .whole)) under (λ k. content-fine _ (c k)) in
-      each-all (wordsFit y h ∷ leb (countIn y h) (pairsIn y) ∷ every (pairFits y h) (countIn y h) ∷ []) (
-        each-all (wordFits y h (y .status .at) ∷ wordFits y h (y .status .at + 1) ∷ wordFits y h (y .epc .at + 1) ∷ wordFits y h (lastIn y) ∷ [])
-            (f _ (omega arith), (f _ (omega arith), (f _ (omega arith), (f _ (omega arith), tt)))),
+      each-all (contentSteps y h) (
+        each-all (wordRules y h)
+            (lt-ltb _ _ (c 0 .lock), (lt-ltb (killedWord y h) 2 (omega (arith, c 0 .killed)), (le-leb _ _ (c 0 .pc), (eq-eqb _ _ (at-last _ (f (lastIn y) (omega arith))), tt)))),
         (
           le-leb _ _ (c 0 .count),
           (
@@ -223,16 +229,16 @@ module _ (y : Layout) (h : List ℕ) (g : Header y h) where
   if-steps : contentFits y h ≡ true → (k : ℕ) → Content y (after h (take k (pending y h)))
   unfolding contentFits wordsFit
   if-steps e k =
-      let t = all-each (wordsFit y h ∷ leb (countIn y h) (pairsIn y) ∷ every (pairFits y h) (countIn y h) ∷ []) e in
-      let w = all-each (wordFits y h (y .status .at) ∷ wordFits y h (y .status .at + 1) ∷ wordFits y h (y .epc .at + 1) ∷ wordFits y h (lastIn y) ∷ []) (t .0) in
+      let t = all-each (contentSteps y h) e in
+      let w = all-each (wordRules y h) (t .0) in
       let pair : (j : ℕ) → j < countIn y h → pairFits y h j ≡ true = every-at (pairFits y h) (countIn y h) (t .1 .1 .0) in
       let goes : (j : ℕ) → j < countIn y h → mayGo y (pairAt y h j .at) ≡ true = λ j l. two-go _ (take-two _ (and-left (mayTake y (pairAt y h j .at)) _ (pair j l))) in
       let under : Under (y .work .at) (pending y h) = all-below (λ s. s .at < y .work .at) (pairAt y h) (countIn y h) (λ j l. go-below _ (goes j l) .1) in
       let fits : Fits (Ok y) (pending y h) =
       all-below (λ s. Ok y (s .at) (s .value)) (pairAt y h) (countIn y h) (λ j l. and-right (mayTake y (pairAt y h j .at)) (mayStand y (pairAt y h j .at) (pairAt y h j .value)) (pair j l)) in
       let fine : Fine (y .work .at) (Ok y) h =
-      λ i l. ok-if y i (wordAt h i) (λ q. rw q (at-lock _ (w .0))) (λ q. rw q (at-killed _ (w .1 .0))) (λ q. rw q (at-pc _ (w .1 .1 .0)))
-      (λ q. let z : i ≡ lastIn y = omega arith in rw z (at-last _ (w .1 .1 .1 .0))) in
+      λ i l. ok-if y i (wordAt h i) (λ q. rw q (ltb-true _ _ (w .0))) (λ q. rw q (ltb-true _ _ (w .1 .0))) (λ q. rw q (leb-true _ _ (w .1 .1 .0)))
+      (λ q. let z : i ≡ lastIn y = omega arith in rw z (eqb-true _ _ (w .1 .1 .1 .0))) in
       let ss = take k (pending y h) in
       let u : Under (y .work .at) ss = all-take (λ s. s .at < y .work .at) k (pending y h) under in
       fine-content (after h ss)

@@ -1,5 +1,5 @@
 -- The tests of a good image say what the rules say, both ways. Assumes nothing.
-use Prim.Native.Nat.{ℕ, zero, suc, _+_, _-_, _*_, _≤_}
+use Prim.Native.Nat.{ℕ, zero, suc, _+_, _-_, _*_, _%_, _≤_}
 use mathlib.Core.Path.{_≡_, refl}
 use mathlib.Core.Logic.{_↔_}
 use mathlib.Core.Bool.{true, _&&_}
@@ -7,14 +7,16 @@ use mathlib.Core.List.{List, [], _∷_}
 use native.Mathlib.Omega.{arith}
 use lib.Dec.{eqb, leb}
 use lib.ListN.{take}
-use borrow.Author.Tests.{ltb-true, leb-true, eqb-true, lt-ltb, le-leb, eq-eqb}
+use borrow.Author.Tests.{ltb-true, leb-true, eqb-true, eqb-false, not-true, lt-ltb, le-leb, eq-eqb, ne-eqb}
 use Rattle.bits.specs.Words.{Store, withWord, after}
-use Rattle.bits.proofs.Below.{and-left, and-right, and-both, every-at, every-all, all-each, each-all}
+use Rattle.bits.specs.Below.{all}
+use Rattle.bits.proofs.Below.{and-left, and-right, and-both, same-test, every-at, every-all, all-each, each-all}
 use Rattle.image.specs.declared.Section.{Section}
 use Rattle.image.specs.declared.Layout.{Layout}
-use Rattle.image.specs.Layout.{within, stands, headerRules, headerGood, blocksIn}
+use Rattle.image.specs.Layout.{end, within, stands, headerRules, headerGood, blocksIn}
 use Rattle.image.specs.Content.{permalock, pairAt, mayGo, pending, contentRules, rulesHold, againAfter, contentGood}
 use Rattle.image.specs.Rules.{Stands, Header, Content}
+use Rattle.image.specs.Steps.{startRules, startGood, bankRules, banksGood, permaRules, permaGood, workRules, workGood, headerSteps}
 
 within-fact : (a b x : ℕ) → within a b x ≡ true → (a ≤ x) × (x ≤ b)
 within-fact a b x e = (leb-true a x (and-left (leb a x) (leb x b) e), leb-true x b (and-right (leb a x) (leb x b) e))
@@ -94,6 +96,59 @@ header-test y m h =
 
 pub header-both : (y : Layout) (m : List ℕ) → (headerGood y m ≡ true) ↔ Header y m
 header-both y m = (header-fact y m, header-test y m)
+
+-- the code's steps ask the same
+header-steps : (y : Layout) (m : List ℕ) → Header y m → all (headerSteps y m) ≡ true
+unfolding startGood banksGood permaGood workGood
+header-steps y m h =
+    let odd : y .work .words % 2 ≡ 0 → ⊥ = omega arith in
+    let work : Stands (y .work) (end (y .perma)) 33 511 = record { at = h .work .at; least = omega arith; most = omega arith } in
+    each-all (headerSteps y m) (
+      each-all (startRules y m) (eq-eqb _ _ (h .sections), (within-test _ _ _ (h .block-least) (h .block-most), (stands-test _ _ _ _ (h .status), tt))),
+      (
+        each-all (bankRules y) (
+          stands-test _ _ _ _ (h .reserved),
+          (stands-test _ _ _ _ (h .epc), (stands-test _ _ _ _ (h .tid), (stands-test _ _ _ _ (h .user), tt))),
+        ),
+        (
+          each-all (permaRules y) (le-leb _ _ (h .blocks), (stands-test _ _ _ _ (h .perma), tt)),
+          (
+            each-all (workRules y m) (stands-test _ _ _ _ work, (simp (ne-eqb _ _ odd), (eq-eqb _ _ (h .whole), tt))),
+            tt,
+          ),
+        ),
+      ),
+    )
+
+steps-header : (y : Layout) (m : List ℕ) → all (headerSteps y m) ≡ true → Header y m
+unfolding startGood banksGood permaGood workGood
+steps-header y m e =
+    let t = all-each (headerSteps y m) e in
+    let a = all-each (startRules y m) (t .0) in
+    let b = all-each (bankRules y) (t .1 .0) in
+    let p = all-each (permaRules y) (t .1 .1 .0) in
+    let w = all-each (workRules y m) (t .1 .1 .1 .0) in
+    let work : Stands (y .work) (end (y .perma)) 33 511 = stands-fact _ _ _ _ (w .0) in
+    let odd : y .work .words % 2 ≡ 0 → ⊥ = eqb-false _ _ (not-true _ (w .1 .0)) in
+    record {
+      sections = eqb-true _ _ (a .0);
+      block-least = within-fact _ _ _ (a .1 .0) .0;
+      block-most = within-fact _ _ _ (a .1 .0) .1;
+      status = stands-fact _ _ _ _ (a .1 .1 .0);
+      reserved = stands-fact _ _ _ _ (b .0);
+      epc = stands-fact _ _ _ _ (b .1 .0);
+      tid = stands-fact _ _ _ _ (b .1 .1 .0);
+      user = stands-fact _ _ _ _ (b .1 .1 .1 .0);
+      blocks = leb-true _ _ (p .0);
+      perma = stands-fact _ _ _ _ (p .1 .0);
+      work = record { at = work .at; least = omega (arith, odd); most = omega (arith, odd) };
+      pairs-least = omega (arith, work .least);
+      pairs-most = omega (arith, work .most);
+      whole = eqb-true _ _ (w .1 .1 .0);
+    }
+
+pub same-header : (y : Layout) (m : List ℕ) → headerGood y m ≡ all (headerSteps y m)
+same-header y m = same-test _ _ (λ e. header-steps y m (header-fact y m e)) (λ e. header-test y m (steps-header y m e))
 
 rules-fact : (y : Layout) (m : List ℕ) → rulesHold y m ≡ true → Content y m
 unfolding rulesHold

@@ -1,29 +1,73 @@
--- The check as the code makes it: which value may stand at which word. Equal to the paper's rules by `same-content`. Assumes nothing.
-use Prim.Native.Nat.{ℕ, _+_, _-_, _/_, _%_, _^_}
-use mathlib.Core.Bool.{Bool, true, cond, _&&_, _||_}
+-- The check as the code makes it: the header's rules in four parts, and which value may stand at which word. Equal to the paper's rules by `same-header` and `same-content`. Assumes nothing.
+use Prim.Native.Nat.{ℕ, _+_, _-_, _*_, _/_, _%_, _^_}
+use mathlib.Core.Bool.{Bool, true, not, cond, _&&_, _||_}
 use mathlib.Core.List.{List, [], _∷_}
 use lib.Dec.{eqb, leb, ltb}
+use lib.ListN.{length}
 use Rattle.bits.specs.Words.{wordAt}
 use Rattle.bits.specs.Below.{every, all}
 use Rattle.image.specs.declared.Layout.{Layout}
-use Rattle.image.specs.Layout.{end, blocksIn, pairsIn, within}
+use Rattle.image.specs.Layout.{layoutOf, end, up, blocksIn, pairsIn, within}
 use Rattle.image.specs.Layout.{stands as Layout·stands}
-use Rattle.image.specs.Content.{countIn, pairAt}
+use Rattle.image.specs.Content.{lockWord, killedWord, lengthOf, pcWord, countIn, pairAt}
+use Rattle.image.specs.Check.{rowOf, checkOf}
 
--- the header's rules up to USER
-unfoldable pub banksGood : Layout → List ℕ → Bool
-banksGood y m =
-    eqb (wordAt m 0) 7
-    && within 1 4096 (y .block)
-    && Layout·stands (y .status) 16 2 2
-    && Layout·stands (y .reserved) (end (y .status)) 4 64
-    && Layout·stands (y .epc) (end (y .reserved)) 2 33
-    && Layout·stands (y .tid) (end (y .epc)) 0 64
-    && Layout·stands (y .user) (end (y .tid)) 0 4096
+-- the header's rules up to STATUS
+abbrev pub startRules : Layout → List ℕ → List Bool
+startRules y m = eqb (wordAt m 0) 7 ∷ within 1 4096 (y .block) ∷ Layout·stands (y .status) 16 2 2 ∷ []
+
+unfoldable pub startGood : Layout → List ℕ → Bool
+startGood y m = all (startRules y m)
+
+-- those of the four banks
+abbrev pub bankRules : Layout → List Bool
+bankRules y =
+    Layout·stands (y .reserved) (end (y .status)) 4 64
+    ∷ Layout·stands (y .epc) (end (y .reserved)) 2 33
+    ∷ Layout·stands (y .tid) (end (y .epc)) 0 64
+    ∷ Layout·stands (y .user) (end (y .tid)) 0 4096
+    ∷ []
+
+unfoldable pub banksGood : Layout → Bool
+banksGood y = all (bankRules y)
+
+-- those of PERMA
+abbrev pub permaRules : Layout → List Bool
+permaRules y = leb (blocksIn y) 256 ∷ Layout·stands (y .perma) (end (y .user)) (up (blocksIn y) 16) (up (blocksIn y) 16) ∷ []
+
+unfoldable pub permaGood : Layout → Bool
+permaGood y = all (permaRules y)
+
+-- those of WORK, which has an odd number of words, and of the length
+abbrev pub workRules : Layout → List ℕ → List Bool
+workRules y m = Layout·stands (y .work) (end (y .perma)) 33 511 ∷ not (eqb (y .work .words % 2) 0) ∷ eqb (length m) (2 * end (y .work)) ∷ []
+
+unfoldable pub workGood : Layout → List ℕ → Bool
+workGood y m = all (workRules y m)
+
+-- all of them
+abbrev pub headerSteps : Layout → List ℕ → List Bool
+headerSteps y m = startGood y m ∷ banksGood y ∷ permaGood y ∷ workGood y m ∷ []
 
 -- the PERMA bits of blocks that don't exist: the lowest so many of its last word
 abbrev pub spareIn : Layout → ℕ
 spareIn y = (16 - blocksIn y % 16) % 16
+
+-- the word before WORK: where PERMA has words, its last
+abbrev pub lastIn : Layout → ℕ
+lastIn y = y .work .at - 1
+
+-- the words that rules speak of: lock word, killed word, PC and the last of PERMA
+abbrev pub wordRules : Layout → List ℕ → List Bool
+wordRules y m =
+    ltb (lockWord y m) 1024
+    ∷ ltb (killedWord y m) 2
+    ∷ leb (lengthOf (pcWord y m) + 2) (y .epc .words)
+    ∷ eqb (wordAt m (lastIn y) % 2 ^ spareIn y) 0
+    ∷ []
+
+unfoldable pub wordsFit : Layout → List ℕ → Bool
+wordsFit y m = all (wordRules y m)
 
 -- v may stand at word i
 unfoldable pub mayStand : Layout → ℕ → ℕ → Bool
@@ -40,20 +84,22 @@ between a o b = leb a o && ltb o b
 abbrev pub mayTake : Layout → ℕ → Bool
 mayTake y o = between 16 o (y .tid .at) || between (y .user .at) o (y .work .at)
 
-abbrev pub wordFits : Layout → List ℕ → ℕ → Bool
-wordFits y m i = mayStand y i (wordAt m i)
-
--- the word before WORK: where PERMA has words, its last
-abbrev pub lastIn : Layout → ℕ
-lastIn y = end (y .perma) - 1
-
--- the words that rules speak of: lock word, killed word, PC and the last of PERMA
-unfoldable pub wordsFit : Layout → List ℕ → Bool
-wordsFit y m =
-    all (wordFits y m (y .status .at) ∷ wordFits y m (y .status .at + 1) ∷ wordFits y m (y .epc .at + 1) ∷ wordFits y m (lastIn y) ∷ [])
-
 abbrev pub pairFits : Layout → List ℕ → ℕ → Bool
 pairFits y m j = mayTake y (pairAt y m j .at) && mayStand y (pairAt y m j .at) (pairAt y m j .value)
 
+abbrev pub contentSteps : Layout → List ℕ → List Bool
+contentSteps y m = wordsFit y m ∷ leb (countIn y m) (pairsIn y) ∷ every (pairFits y m) (countIn y m) ∷ []
+
 unfoldable pub contentFits : Layout → List ℕ → Bool
-contentFits y m = all (wordsFit y m ∷ leb (countIn y m) (pairsIn y) ∷ every (pairFits y m) (countIn y m) ∷ [])
+contentFits y m = all (contentSteps y m)
+
+-- the content's number: 3 where a rule is broken, 5 where they hold and words are pending, else 0
+abbrev pub pendingRow : Layout → List ℕ → ℕ
+pendingRow y m = cond (eqb (countIn y m) 0) 0 5
+
+unfoldable pub contentRow : Layout → List ℕ → ℕ
+contentRow y m = cond (contentFits y m) (pendingRow y m) 3
+
+-- the number of the answer that an image alone decides
+unfoldable pub readyRow : List ℕ → ℕ
+readyRow m = cond (eqb (rowOf (checkOf m)) 0) (pendingRow (layoutOf m) m) (rowOf (checkOf m))

@@ -1,14 +1,15 @@
 // The image: its layout, read from the header, and the check of its header and content rules (RULES 1).
 ghost use mathlib.Core.Path.{_≡_};
-ghost use Prim.Native.Nat.{_+_, _*_, _^_, _≤_, _<_};
+ghost use mathlib.Core.Bool.{not};
+ghost use Prim.Native.Nat.{_^_, _≤_, _<_};
 ghost use lib.Dec.{eqb};
 ghost use lib.ListN.{length};
 ghost use Rattle.bits.specs.Below.{every};
-ghost use Rattle.image.specs.Layout.{layoutOf, sectionAt, blocksIn, pairsIn, headerGood, end as endOf, within as withinOf, stands as standsOf};
+ghost use Rattle.image.specs.Layout.{layoutOf, blocksIn, pairsIn, headerGood, end as endOf, within as withinOf, stands as standsOf};
 ghost use Rattle.image.specs.Check.{meaning, rowOf, checkOf};
-ghost use Rattle.image.specs.Steps.{banksGood, spareIn, mayStand, between as betweenOf, mayTake, wordFits, lastIn, wordsFit, pairFits, contentFits};
-use bits::both;
-use bits::either;
+ghost use Rattle.image.specs.Content.{countIn};
+ghost use Rattle.image.specs.Rules.{Header, Good};
+ghost use Rattle.image.specs.Steps.{startGood, banksGood, permaGood, workGood, spareIn, wordsFit, mayStand, between as betweenOf, mayTake, pairFits, contentRow, readyRow};
 
 // A section: its offset in the image and its count, both in words.
 pub struct Section {
@@ -39,41 +40,60 @@ pub enum Fit {
     Good(Layout),
 }
 
-fn read_section(image: &[u8], i: usize) -> Section
-    requires { ⌜ i < 16 ⌝ }
-    ensures { λ r. ⌜ r ≡ sectionAt (now (image .entry)) i ⌝ }
-{
-    Section {
-        at: bits::word(image, i),
-        words: bits::word(image, i + 1),
-    }
-}
-
-fn read_layout(image: &[u8]) -> Layout
+// The layout of bytes that have a header.
+pub fn read_layout(image: &[u8]) -> Layout
+    requires { ⌜ 32 ≤ length (now image) ⌝ }
     ensures { λ r. ⌜ r ≡ layoutOf (now (image .entry)) ⌝ }
 {
     Layout {
-        block: bits::word(image, 1),
-        status: read_section(image, 2),
-        reserved: read_section(image, 4),
-        epc: read_section(image, 6),
-        tid: read_section(image, 8),
-        user: read_section(image, 10),
-        perma: read_section(image, 12),
-        work: read_section(image, 14),
+        block: bits::word_in(image, 1),
+        status: Section {
+            at: bits::word_in(image, 2),
+            words: bits::word_in(image, 3),
+        },
+        reserved: Section {
+            at: bits::word_in(image, 4),
+            words: bits::word_in(image, 5),
+        },
+        epc: Section {
+            at: bits::word_in(image, 6),
+            words: bits::word_in(image, 7),
+        },
+        tid: Section {
+            at: bits::word_in(image, 8),
+            words: bits::word_in(image, 9),
+        },
+        user: Section {
+            at: bits::word_in(image, 10),
+            words: bits::word_in(image, 11),
+        },
+        perma: Section {
+            at: bits::word_in(image, 12),
+            words: bits::word_in(image, 13),
+        },
+        work: Section {
+            at: bits::word_in(image, 14),
+            words: bits::word_in(image, 15),
+        },
     }
 }
 
 fn within(least: usize, most: usize, n: usize) -> bool
     ensures { λ r. ⌜ r ≡ withinOf least most n ⌝ }
 {
-    both(least <= n, n <= most)
+    if n < least {
+        return false;
+    }
+    n <= most
 }
 
 fn stands(s: Section, o: usize, least: usize, most: usize) -> bool
     ensures { λ r. ⌜ r ≡ standsOf s o least most ⌝ }
 {
-    both(s.at as usize == o, within(least, most, s.words as usize))
+    if s.at as usize != o {
+        return false;
+    }
+    within(least, most, s.words as usize)
 }
 
 // The first word after a section.
@@ -105,32 +125,76 @@ pub fn pairs(y: Layout) -> usize
     (n - 1) / 2
 }
 
-// The sections up to USER stand where and as large as they may.
-fn banks_good(image: &[u8], y: Layout) -> bool
-    ensures { λ r. ⌜ r ≡ banksGood y (now (image .entry)) ⌝ }
+// The header's rules up to STATUS.
+fn start_good(image: &[u8], y: Layout) -> bool
+    requires { ⌜ 32 ≤ length (now image) ⌝ }
+    ensures { λ r. ⌜ r ≡ startGood y (now (image .entry)) ⌝ }
 {
-    let seven = both(bits::word(image, 0) == 7, within(1, 4096, y.block as usize));
-    let status = both(seven, stands(y.status, 16, 2, 2));
-    let reserved = both(status, stands(y.reserved, end(y.status), 4, 64));
-    let epc = both(reserved, stands(y.epc, end(y.reserved), 2, 33));
-    let tid = both(epc, stands(y.tid, end(y.epc), 0, 64));
-    both(tid, stands(y.user, end(y.tid), 0, 4096))
+    if bits::word_in(image, 0) != 7 {
+        return false;
+    }
+    if !within(1, 4096, y.block as usize) {
+        return false;
+    }
+    stands(y.status, 16, 2, 2)
+}
+
+// The banks stand where and as large as they may.
+fn banks_good(y: Layout) -> bool
+    ensures { λ r. ⌜ r ≡ banksGood y ⌝ }
+{
+    if !stands(y.reserved, end(y.status), 4, 64) {
+        return false;
+    }
+    if !stands(y.epc, end(y.reserved), 2, 33) {
+        return false;
+    }
+    if !stands(y.tid, end(y.epc), 0, 64) {
+        return false;
+    }
+    stands(y.user, end(y.tid), 0, 4096)
+}
+
+// PERMA has a bit for each of at most 256 blocks.
+fn perma_good(y: Layout) -> bool
+    ensures { λ r. ⌜ r ≡ permaGood y ⌝ }
+{
+    let n = blocks(y);
+    if 256 < n {
+        return false;
+    }
+    let p = (n + 15) / 16;
+    stands(y.perma, end(y.user), p, p)
+}
+
+// WORK has a count and 16 to 255 pairs, and the image ends with it.
+fn work_good(image: &[u8], y: Layout) -> bool
+    ensures { λ r. ⌜ r ≡ workGood y (now (image .entry)) ⌝ }
+{
+    if !stands(y.work, end(y.perma), 33, 511) {
+        return false;
+    }
+    if y.work.words % 2 == 0 {
+        return false;
+    }
+    image.len() == 2 * end(y.work)
 }
 
 // The header's rules hold.
 fn header_good(image: &[u8], y: Layout) -> bool
+    requires { ⌜ 32 ≤ length (now image) ⌝ }
     ensures { λ r. ⌜ r ≡ headerGood y (now (image .entry)) ⌝ }
 {
-    let n = blocks(y);
-    let p = (n + 15) / 16;
-    let w = pairs(y);
-    let user = both(banks_good(image, y), n <= 256);
-    let perma = both(user, stands(y.perma, end(y.user), p, p));
-    let work = both(perma, stands(y.work, end(y.perma), 1 + 2 * w, 1 + 2 * w));
-    both(
-        both(work, within(16, 255, w)),
-        image.len() == 2 * end(y.work),
-    )
+    if !start_good(image, y) {
+        return false;
+    }
+    if !banks_good(y) {
+        return false;
+    }
+    if !perma_good(y) {
+        return false;
+    }
+    work_good(image, y)
 }
 
 // 2 to the number of PERMA bits of blocks that don't exist.
@@ -138,6 +202,23 @@ fn spare_unit(y: Layout) -> u16
     ensures { λ r. ⌜ r ≡ 2 ^ spareIn y ⌝ }
 {
     1 << ((16 - blocks(y) % 16) % 16)
+}
+
+// The four words that rules speak of keep them, each its own.
+fn words_fit(image: &[u8], y: Layout, unit: u16) -> bool
+    requires { ⌜ (unit ≡ 2 ^ spareIn y) × Header y (now image) ⌝ }
+    ensures { λ r. ⌜ r ≡ wordsFit y (now (image .entry)) ⌝ }
+{
+    if 1024 <= bits::word_in(image, y.status.at as usize) {
+        return false;
+    }
+    if 2 <= bits::word_in(image, y.status.at as usize + 1) {
+        return false;
+    }
+    if y.epc.words < bits::word_in(image, y.epc.at as usize + 1) / 2048 + 2 {
+        return false;
+    }
+    bits::word_in(image, y.work.at as usize - 1) % unit == 0
 }
 
 // The value v may stand at word i.
@@ -161,64 +242,44 @@ fn may_stand(y: Layout, unit: u16, i: usize, v: u16) -> bool
     true
 }
 
-// What stands at word i may stand there.
-fn word_fits(image: &[u8], y: Layout, unit: u16, i: usize) -> bool
-    requires { ⌜ (unit ≡ 2 ^ spareIn y) × (i < 2 ^ 62) ⌝ }
-    ensures { λ r. ⌜ r ≡ wordFits y (now (image .entry)) i ⌝ }
-{
-    may_stand(y, unit, i, bits::word(image, i))
-}
-
-// The word before WORK: where PERMA has words, its last.
-fn last(y: Layout) -> usize
-    ensures { λ r. ⌜ (r ≡ lastIn y) × (r < 131072) ⌝ }
-{
-    let e = end(y.perma);
-    if e == 0 {
-        return 0;
-    }
-    e - 1
-}
-
-// The four words that rules speak of may stand where they do.
-fn words_fit(image: &[u8], y: Layout, unit: u16) -> bool
-    requires { ⌜ unit ≡ 2 ^ spareIn y ⌝ }
-    ensures { λ r. ⌜ r ≡ wordsFit y (now (image .entry)) ⌝ }
-{
-    let lock = y.status.at as usize;
-    let locked = word_fits(image, y, unit, lock);
-    let killed = both(locked, word_fits(image, y, unit, lock + 1));
-    let pc = both(killed, word_fits(image, y, unit, y.epc.at as usize + 1));
-    both(pc, word_fits(image, y, unit, last(y)))
-}
-
-fn between(from: u16, o: usize, to: u16) -> bool
+fn between(from: usize, o: usize, to: usize) -> bool
     ensures { λ r. ⌜ r ≡ betweenOf from o to ⌝ }
 {
-    both(from as usize <= o, o < to as usize)
+    if o < from {
+        return false;
+    }
+    o < to
 }
 
 // A pending value may go to word o.
 fn may_take(y: Layout, o: usize) -> bool
     ensures { λ r. ⌜ r ≡ mayTake y o ⌝ }
 {
-    either(between(16, o, y.tid.at), between(y.user.at, o, y.work.at))
+    if between(16, o, y.tid.at as usize) {
+        return true;
+    }
+    between(y.user.at as usize, o, y.work.at as usize)
 }
 
-// Pair j of WORK may be pending.
+// Pair j of WORK may be pending. Most are for USER or PERMA, and but for the last word there any value may stand.
 fn pair_fits(image: &[u8], y: Layout, unit: u16, j: usize) -> bool
-    requires { ⌜ (unit ≡ 2 ^ spareIn y) × (j < 65536) ⌝ }
+    requires { ⌜ (unit ≡ 2 ^ spareIn y) × (j < pairsIn y) × Header y (now image) ⌝ }
     ensures { λ r. ⌜ r ≡ pairFits y (now (image .entry)) j ⌝ }
 {
     let at = y.work.at as usize + 1 + 2 * j;
-    let o = bits::word(image, at) as usize;
-    let v = bits::word(image, at + 1);
-    both(may_take(y, o), may_stand(y, unit, o, v))
+    let o = bits::word_in(image, at) as usize;
+    if between(y.user.at as usize, o, y.work.at as usize - 1) {
+        return true;
+    }
+    if !may_take(y, o) {
+        return false;
+    }
+    may_stand(y, unit, o, bits::word_in(image, at + 1))
 }
 
 // The first c pairs of WORK may be pending.
 fn pairs_fit(image: &[u8], y: Layout, unit: u16, c: usize) -> bool
-    requires { ⌜ (unit ≡ 2 ^ spareIn y) × (c ≤ 65535) ⌝ }
+    requires { ⌜ (unit ≡ 2 ^ spareIn y) × (c ≤ pairsIn y) × Header y (now image) ⌝ }
     ensures { λ r. ⌜ r ≡ every (pairFits y (now (image .entry))) c ⌝ }
 {
     let mut j = 0;
@@ -231,33 +292,71 @@ fn pairs_fit(image: &[u8], y: Layout, unit: u16, c: usize) -> bool
     true
 }
 
-// The content rules hold.
-fn content_good(image: &[u8], y: Layout) -> bool
-    ensures { λ r. ⌜ r ≡ contentFits y (now (image .entry)) ⌝ }
+// 3 where a content rule is broken, 5 where they hold and words are pending, else 0.
+fn content_row(image: &[u8], y: Layout) -> u8
+    requires { ⌜ Header y (now image) ⌝ }
+    ensures { λ r. ⌜ r ≡ contentRow y (now (image .entry)) ⌝ }
 {
     let unit = spare_unit(y);
-    let c = bits::word(image, y.work.at as usize) as usize;
-    if !both(words_fit(image, y, unit), c <= pairs(y)) {
-        return false;
+    if !words_fit(image, y, unit) {
+        return 3;
     }
-    pairs_fit(image, y, unit, c)
+    let c = bits::word_in(image, y.work.at as usize) as usize;
+    if c == 0 {
+        return 0;
+    }
+    if pairs(y) < c {
+        return 3;
+    }
+    if !pairs_fit(image, y, unit, c) {
+        return 3;
+    }
+    5
+}
+
+// The number of the answer that an image alone decides (RULES 5): 1, 2 or 3, 5 where words are pending, else 0. For any bytes.
+pub fn ready(image: &[u8]) -> u8
+    ensures { λ r. ⌜ r ≡ readyRow (now (image .entry)) ⌝ }
+{
+    if image.len() < 32 {
+        return 1;
+    }
+    let y = read_layout(image);
+    if !header_good(image, y) {
+        return 2;
+    }
+    content_row(image, y)
+}
+
+// The number of the check's answer in the table (RULES 5), for any bytes.
+pub fn verdict(image: &[u8]) -> u8
+    ensures { λ r. ⌜ r ≡ rowOf (checkOf (now (image .entry))) ⌝ }
+{
+    let v = ready(image);
+    if v == 5 {
+        return 0;
+    }
+    v
+}
+
+// Words are pending: WORK's count isn't 0.
+pub fn pending(image: &[u8]) -> bool
+    requires { ⌜ Good (layoutOf (now image)) (now image) ⌝ }
+    ensures { λ r. ⌜ r ≡ not (eqb (countIn (layoutOf (now (image .entry))) (now (image .entry))) 0) ⌝ }
+{
+    bits::word_in(image, bits::word_in(image, 14) as usize) != 0
 }
 
 // The image check, for any bytes.
 pub fn check(image: &[u8]) -> Fit
     ensures { λ r. ⌜ meaning r ≡ checkOf (now (image .entry)) ⌝ }
 {
-    if image.len() < 32 {
-        return Fit::Short;
+    match verdict(image) {
+        1 => Fit::Short,
+        2 => Fit::Header,
+        3 => Fit::Content,
+        _ => Fit::Good(read_layout(image)),
     }
-    let y = read_layout(image);
-    if !header_good(image, y) {
-        return Fit::Header;
-    }
-    if !content_good(image, y) {
-        return Fit::Content;
-    }
-    Fit::Good(y)
 }
 
 // An answer's number in the table (RULES 5).

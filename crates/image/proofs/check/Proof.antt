@@ -1,27 +1,27 @@
--- `image::check` meets its contract: past the header the answer is that of the content, by `from-content`. Assumes nothing.
-use Rattle.image.proofs.Answers.{from-content}
-use mathlib.Core.Path.{sym, _∙_}
-use Rattle.image.specs.Check.{checkOf}
-use borrow.Author.Tests.{lt-ltb, le-ltb, not-true, not-false}
+-- `image::check` meets its contract: each number is its answer, by `row-refused` and `row-good`. Assumes nothing.
+use Rattle.image.proofs.Answers.{row-refused, row-good, row-long, row-some}
+use Rattle.image.specs.Check.{good}
+use denote.Ref.{now}
+use mathlib.Core.Path.{_≡_, sym, ap, _∙_}
+use native.Mathlib.Omega.{arith}
 use borrow.Author.Needs.{needs}
 use Rattle.image.proofs.check.Statement.{statement}
 use Rattle.image.proofs.check.Tie as tie
 
+read-layout-requires : tie.Need-read-layout-requires
+read-layout-requires c κs = row-long (now (c .before .before .before .args .image)) (λ e. c .match .rest .0 .0 .1 (c .before .verdict .ensures ∙ e))
+
 returns : tie.Need-returns
-unfolding checkOf
-returns c = simp (lt-ltb _ _ (c .if1 .taken))
+returns c = row-refused (now (c .before .before .before .args .image)) 1 (sym (c .before .verdict .ensures) ∙ c .match .keys1) (omega arith)
 
 returns-2 : tie.Need-returns-2
-unfolding checkOf
-returns-2 c = simp (le-ltb _ _ (c .before .before .before .if1 .left), ← c .before .before .read-layout .ensures, ← c .before .header-good .ensures, c .if2 .taken)
+returns-2 c = row-refused (now (c .before .before .before .args .image)) 2 (sym (c .before .verdict .ensures) ∙ c .match .keys2) (omega arith)
 
 returns-3 : tie.Need-returns-3
-returns-3 c = rw (not-true (c .before .content-good .result) (c .if3 .taken)) at (from-content _ (c .before .before .before .before .read-layout .ensures) (c .before .before .before .before .before .if1 .left) (sym (c .before .before .before .header-good .ensures) ∙ not-false (c .before .before .before .header-good .result) (c .before .before .if2 .left)) (c .before .content-good .ensures))
+returns-3 c = row-refused (now (c .before .before .before .args .image)) 3 (sym (c .before .verdict .ensures) ∙ c .match .keys3) (omega arith)
 
 returns-4 : tie.Need-returns-4
-returns-4 c = rw (not-false (c .before .content-good .result) (c .if3 .left)) at (from-content _ (c .before .before .before .before .read-layout .ensures) (c .before .before .before .before .before .if1 .left) (sym (c .before .before .before .header-good .ensures) ∙ not-false (c .before .before .before .header-good .result) (c .before .before .if2 .left)) (c .before .content-good .ensures))
+returns-4 c = let v = c .before .before .verdict .result in let r = c .before .match .rest in let a : v ≡ 1 → ⊥ = r .0 .0 .1 in let b : v ≡ 2 → ⊥ = r .0 .1 in let d : v ≡ 3 → ⊥ = r .1 in ap good (c .read-layout .ensures) ∙ row-good (now (c .before .before .before .before .args .image)) (omega (arith, row-some (now (c .before .before .before .before .args .image)), c .before .before .verdict .ensures))
 
 pub check-spec : {M : Type 1} → statement M
-check-spec =
-    tie.close
-    (tie.spec returns (search needs) (search needs) returns-2 (search needs) returns-3 returns-4)
+check-spec = tie.close (tie.spec (search needs) read-layout-requires returns returns-2 returns-3 returns-4)
