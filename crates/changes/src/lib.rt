@@ -1,4 +1,4 @@
-// What a command stores, as a value, and storing it as one change (RULES 2.1).
+// Storing a command's words as one change, by where they come from (RULES 2.1). Each answers the stores made, of at most s.
 ghost use mathlib.Core.Path.{_≡_};
 ghost use mathlib.Core.List.{[], _∷_};
 ghost use Prim.Native.Nat.{ℕ, _+_, _*_, _^_, _≤_, _<_};
@@ -9,19 +9,10 @@ ghost use Rattle.bits.specs.Bits.{fieldAt};
 ghost use Rattle.bits.specs.Below.{below};
 ghost use Rattle.stores.specs.Stores.{changeStores};
 ghost use Rattle.stores.specs.Steps.{Made, wordFrom};
-ghost use Rattle.changes.specs.Changes.{Holds, Makes, wordTo, orTo, wordsOf, countOf};
-
-// What is stored: the first word's place, and a value, or how many words. A frame's words or mask begin at a bit of it.
-pub enum Change {
-    Nothing,
-    Word(usize, u16),
-    Frame(usize, usize, usize),
-    Zeros(usize, usize),
-    Mask(usize, usize, usize),
-}
+ghost use Rattle.changes.specs.Changes.{Holds, wordTo, orTo};
 
 // The n words that stand in `words` from bit `from` on.
-fn store_bits(
+pub fn store_bits(
     image: &mut [u8],
     work: usize,
     at: usize,
@@ -46,7 +37,7 @@ fn store_words(image: &mut [u8], work: usize, at: usize, n: usize, words: &[u8],
 }
 
 // One word.
-fn store_one(image: &mut [u8], work: usize, at: usize, v: u16, s: usize) -> usize
+pub fn store_one(image: &mut [u8], work: usize, at: usize, v: u16, s: usize) -> usize
     requires { ⌜ Holds work at 1 (length (now image)) ⌝ }
     ensures { λ r. ⌜ Made (changeStores work (storeOf at v ∷ [])) s (now (image .entry)) (now (image .exit)) r ⌝ }
 {
@@ -56,7 +47,7 @@ fn store_one(image: &mut [u8], work: usize, at: usize, v: u16, s: usize) -> usiz
 }
 
 // Zeros.
-fn store_zeros(image: &mut [u8], work: usize, at: usize, n: usize, s: usize) -> usize
+pub fn store_zeros(image: &mut [u8], work: usize, at: usize, n: usize, s: usize) -> usize
     requires { ⌜ Holds work at n (length (now image)) ⌝ }
     ensures { λ r. ⌜ Made (changeStores work (below (λ j. storeOf (at + j) 0) n)) s (now (image .entry)) (now (image .exit)) r ⌝ }
 {
@@ -79,7 +70,7 @@ fn or_words(buffer: &mut [u8], image: &[u8], at: usize, n: usize, frame: &[u8], 
 }
 
 // Words with a frame's bits added.
-fn store_mask(
+pub fn store_mask(
     image: &mut [u8],
     work: usize,
     at: usize,
@@ -94,31 +85,4 @@ fn store_mask(
     let mut buffer = [0u8; 32];
     or_words(&mut buffer, image, at, n, frame, from);
     store_words(image, work, at, n, &buffer, s)
-}
-
-// How many words a change stores.
-pub fn count(change: Change) -> usize
-    ensures { λ r. ⌜ r ≡ countOf change ⌝ }
-{
-    match change {
-        Change::Nothing => 0,
-        Change::Word(_, _) => 1,
-        Change::Frame(_, n, _) => n,
-        Change::Zeros(_, n) => n,
-        Change::Mask(_, n, _) => n,
-    }
-}
-
-// Makes a change, with power for s stores. Answers the stores made.
-pub fn make(image: &mut [u8], work: usize, change: Change, frame: &[u8], s: usize) -> usize
-    requires { ⌜ Makes work (length (now image)) change ⌝ }
-    ensures { λ r. ⌜ Made (changeStores work (wordsOf (now (image .entry)) (now (frame .entry)) change)) s (now (image .entry)) (now (image .exit)) r ⌝ }
-{
-    match change {
-        Change::Nothing => 0,
-        Change::Word(at, v) => store_one(image, work, at, v, s),
-        Change::Frame(at, n, from) => store_bits(image, work, at, n, frame, from, s),
-        Change::Zeros(at, n) => store_zeros(image, work, at, n, s),
-        Change::Mask(at, n, from) => store_mask(image, work, at, n, frame, from, s),
-    }
 }

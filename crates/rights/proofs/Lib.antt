@@ -1,3 +1,4 @@
 pub mod Spans
 pub mod Searches
 pub mod Masks
+pub mod Banks

@@ -5,10 +5,11 @@ ghost use Prim.Native.Nat.{_+_, _-_, _*_, _/_, _%_, _^_, _≤_, _<_};
 ghost use lib.Dec.{eqb, ltb};
 ghost use Rattle.bits.specs.Bits.{bitAt};
 ghost use Rattle.bits.specs.Below.{every};
-ghost use Rattle.image.specs.Layout.{blocksIn};
+ghost use lib.ListN.{length};
+ghost use Rattle.image.specs.Layout.{layoutOf, blocksIn};
 ghost use Rattle.image.specs.Content.{permalock as permalockOf};
-ghost use Rattle.rights.specs.Rights.{bankOf, pwdBit, permaBit, opens as opensOf, pairOf, blockOpen, mayWrite, spanWords, beyond as beyondOf, badPc, readCode, writeCode, lockedTo, pairBreaks, somePermalock, userOpenForGood, lockCode, notPerma, permaReadCode, permaCode};
-ghost use Rattle.rights.specs.Steps.{firstLocked, restOpen};
+ghost use Rattle.rights.specs.Rights.{bankOf, pwdBit, permaBit, opens as opensOf, pairOf, blockOpen, mayWrite, badPc, readCode, writeCode, lockedTo, pairBreaks, somePermalock, userOpenForGood, lockCode, notPerma, permaReadCode, permaCode};
+ghost use Rattle.rights.specs.Steps.{firstLocked, restOpen, entryOf, wordsIn, past};
 use bits::both;
 use bits::either;
 use frames::Span;
@@ -51,6 +52,28 @@ pub fn bank(y: Layout, b: u16) -> Section
         return y.tid;
     }
     y.user
+}
+
+// Where the header has the bank with the number b.
+fn entry_of(b: u16) -> usize
+    ensures { λ r. ⌜ (r ≡ entryOf b) × (r ≤ 10) ⌝ }
+{
+    if b < 3 {
+        return 4 + 2 * b as usize;
+    }
+    10
+}
+
+// The bank with the number b, read from the header.
+pub fn bank_in(image: &[u8], b: u16) -> Section
+    requires { ⌜ 32 ≤ length (now image) ⌝ }
+    ensures { λ r. ⌜ r ≡ bankOf (layoutOf (now (image .entry))) b ⌝ }
+{
+    let i = entry_of(b);
+    Section {
+        at: bits::word_in(image, i),
+        words: bits::word_in(image, i + 1),
+    }
 }
 
 // A bit of pair k of a lock word; `top` is where that of pair 0 stands.
@@ -127,23 +150,30 @@ pub fn block_locked(image: &[u8], y: Layout, i: usize) -> bool
     permalock(image, y, block_of(y, i)) != 0
 }
 
-// The first of the USER words from .. from + count - 1 that stands in a permalocked block.
+// The first of the USER words from .. from + count - 1 that stands in a permalocked block, block by block.
 pub fn first_locked(image: &[u8], y: Layout, from: usize, count: usize) -> Found
     requires { ⌜ (from < 2 ^ 32) × (count ≤ 65535) ⌝ }
     ensures { λ r. ⌜ r ≡ firstLocked y (now (image .entry)) from count ⌝ }
 {
-    let mut j: usize = 0;
-    while j < count {
-        if block_locked(image, y, from + j) {
-            return Found::At(from + j);
+    let width = y.block as usize;
+    let stop = from + count;
+    let mut i = from;
+    let mut b = block_of(y, from);
+    while i < stop {
+        if permalock(image, y, b) != 0 {
+            return Found::At(i);
         }
-        j += 1;
+        if width == 0 {
+            return Found::Nothing;
+        }
+        b += 1;
+        i = b * width;
     }
     Found::Nothing
 }
 
 // None of the n USER words from word p on stands in a permalocked block.
-fn none_locked(image: &[u8], y: Layout, p: usize, n: usize) -> bool
+pub fn none_locked(image: &[u8], y: Layout, p: usize, n: usize) -> bool
     requires { ⌜ (p < 2 ^ 32) × (n ≤ 65535) ⌝ }
     ensures { λ r. ⌜ r ≡ every (λ j. blockOpen y (now (image .entry)) (p + j)) n ⌝ }
 {
@@ -188,37 +218,43 @@ fn may_write(image: &[u8], y: Layout, secured: bool, b: u16, p: usize, n: usize)
     rest_open(image, y, b, p, n)
 }
 
-// The words of a span: to the bank's end where the count is 0.
-fn span_words(y: Layout, s: Span) -> usize
-    ensures { λ r. ⌜ (r ≡ spanWords y s) × (r < 65536) ⌝ }
+// The words of a span of the bank b: to its end where the count is 0.
+pub fn span_words(b: Section, s: Span) -> usize
+    ensures { λ r. ⌜ (r ≡ wordsIn b s) × (r < 65536) ⌝ }
 {
     if s.count == 0 {
-        return minus(bank(y, s.bank).words as usize, s.pointer as usize);
+        return minus(b.words as usize, s.pointer as usize);
     }
     s.count as usize
 }
 
-// A pointer at or beyond the bank's end, or words past it.
-fn beyond(y: Layout, s: Span) -> bool
-    ensures { λ r. ⌜ r ≡ beyondOf y s ⌝ }
+// A pointer at or beyond the end of the bank b, or words past it.
+fn beyond(b: Section, s: Span) -> bool
+    ensures { λ r. ⌜ r ≡ past b s ⌝ }
 {
-    let words = bank(y, s.bank).words as usize;
+    let words = b.words as usize;
     let p = s.pointer as usize;
-    either(words <= p, words < p + s.count as usize)
+    if words <= p {
+        return true;
+    }
+    words < p + s.count as usize
 }
 
 // The code of a Read.
-pub fn read_code(image: &[u8], y: Layout, secured: bool, s: Span) -> Code
-    ensures { λ r. ⌜ r ≡ readCode y (now (image .entry)) secured s ⌝ }
+pub fn read_code(image: &[u8], secured: bool, s: Span) -> Code
+    requires { ⌜ 32 ≤ length (now image) ⌝ }
+    ensures { λ r. ⌜ r ≡ readCode (layoutOf (now (image .entry))) (now (image .entry)) secured s ⌝ }
 {
-    if beyond(y, s) {
+    let b = bank_in(image, s.bank);
+    if beyond(b, s) {
         return Code::Error(3);
     }
     if s.bank != 0 {
         return Code::Nothing;
     }
+    let y = image::read_layout(image);
     let lock = bits::word(image, y.status.at as usize);
-    if reserved_open(secured, lock, s.pointer as usize, span_words(y, s)) {
+    if reserved_open(secured, lock, s.pointer as usize, span_words(b, s)) {
         return Code::Nothing;
     }
     Code::Error(4)
@@ -234,10 +270,12 @@ fn bad_pc(y: Layout, s: Span, pc: u16) -> bool
 }
 
 // The code of a Write, BlockWrite or BlockErase; pc is what would stand in EPC word 1.
-pub fn write_code(image: &[u8], y: Layout, secured: bool, s: Span, pc: u16) -> Code
-    ensures { λ r. ⌜ r ≡ writeCode y (now (image .entry)) secured s pc ⌝ }
+pub fn write_code(image: &[u8], secured: bool, s: Span, pc: u16) -> Code
+    requires { ⌜ 32 ≤ length (now image) ⌝ }
+    ensures { λ r. ⌜ r ≡ writeCode (layoutOf (now (image .entry))) (now (image .entry)) secured s pc ⌝ }
 {
-    if beyond(y, s) {
+    let y = image::read_layout(image);
+    if beyond(bank_in(image, s.bank), s) {
         return Code::Error(3);
     }
     if !may_write(

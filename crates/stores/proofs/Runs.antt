@@ -44,6 +44,18 @@ pub ran-append : {xs ys : List Store} {s k l : ℕ} {m n o : List ℕ} → Ran x
 ran-append {xs} {ys} {s} {k} {l} {m} {n} {o} p q =
     record { image = rw (take-append s xs ys m, ← p .image, ← p .rest) (q .image); rest = simp length-append (omega (arith, p .rest, q .rest)) }
 
+-- of two stores, one where power is left for no more, or both
+pub ran-first : (s : ℕ) (x y : Store) {l : ℕ} {m n : List ℕ} → s < 2 → Ran (x ∷ []) s m n l → Ran (x ∷ y ∷ []) s m n l
+ran-first zero x y h p = record { image = p .image; rest = omega (arith, p .rest) }
+ran-first (suc zero) x y h p = record { image = p .image; rest = omega (arith, p .rest) }
+ran-first (suc (suc s)) x y h p = absurd (omega arith)
+
+pub ran-both : (s : ℕ) (x y : Store) {m n o : List ℕ} → 2 ≤ s → n ≡ withWord m (x .at) (x .value) → o ≡ withWord n (y .at) (y .value)
+    → Ran (x ∷ y ∷ []) s m o (s - 2)
+ran-both s x y h e f =
+    let z : s - 1 - 1 ≡ s - 2 = omega arith in
+    rw z at (ran-append (ran-one s x (λ q. omega arith) e) (ran-one (s - 1) y (λ q. omega arith) f))
+
 -- whatever is to be stored without power
 pub ran-out : (xs : List Store) (m : List ℕ) → Ran xs 0 m m 0
 ran-out xs m = record { image = refl; rest = omega arith }

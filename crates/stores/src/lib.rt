@@ -4,6 +4,7 @@ ghost use mathlib.Core.List.{[], _∷_, _++_};
 ghost use Prim.Native.Nat.{ℕ, _+_, _*_, _^_, _≤_, _<_};
 ghost use lib.ListN.{length};
 ghost use Rattle.bits.specs.Words.{wordAt, store as storeOf};
+ghost use Rattle.bits.specs.Bits.{fieldAt};
 ghost use Rattle.image.specs.Content.{lengthOf, pcWord};
 ghost use Rattle.image.specs.Rules.{Good};
 ghost use Rattle.stores.specs.Stores.{staged as stagedOf, finished, changeStores, epcCrc, powerStores};
@@ -18,23 +19,38 @@ pub struct Staged {
 
 // One store if power is left, and none if not. Answers the stores left.
 fn spend(image: &mut [u8], left: usize, i: usize, v: u16) -> usize
-    requires { ⌜ i < 2 ^ 62 ⌝ }
+    requires { ⌜ 2 * i + 1 < length (now image) ⌝ }
     ensures { λ r. ⌜ Ran (storeOf i v ∷ []) left (now (image .entry)) (now (image .exit)) r ⌝ }
 {
     if left == 0 {
         return 0;
     }
-    bits::store_word(image, i, v);
+    bits::store_word_in(image, i, v);
     left - 1
 }
 
-// Pair k of the work area.
+// Pair k of the work area; one test where power is left for both words.
 fn put_pair(area: &mut [u8], left: usize, k: usize, o: u16, v: u16) -> usize
-    requires { ⌜ k < 65536 ⌝ }
+    requires { ⌜ (k < 256) × (2 * (3 + 2 * k) ≤ length (now area)) ⌝ }
     ensures { λ r. ⌜ Ran (stagedOf (1 + 2 * k) (storeOf o v ∷ [])) left (now (area .entry)) (now (area .exit)) r ⌝ }
 {
-    let rest = spend(area, left, 1 + 2 * k, o);
-    spend(area, rest, 1 + 2 * k + 1, v)
+    if left < 2 {
+        return spend(area, left, 1 + 2 * k, o);
+    }
+    bits::store_word_in(area, 1 + 2 * k, o);
+    bits::store_word_in(area, 1 + 2 * k + 1, v);
+    left - 2
+}
+
+// Word j of those in `words` from bit `from` on.
+fn value(words: &[u8], from: usize, j: usize) -> u16
+    requires { ⌜ (j < 65536) × (from < 2 ^ 61) ⌝ }
+    ensures { λ r. ⌜ r ≡ fieldAt (now (words .entry)) (from + 16 * j) 16 ⌝ }
+{
+    if from == 0 {
+        return bits::word(words, j);
+    }
+    bits::field(words, from + 16 * j, 16)
 }
 
 // Word j of those to store, staged for word `at + j` after k pairs, or passed over.
@@ -48,7 +64,7 @@ fn stage_word(
     from: usize,
     skip: &[u8],
 ) -> Staged
-    requires { ⌜ (k < 256) × (at + j < 65536) × (from < 2 ^ 61) ⌝ }
+    requires { ⌜ (k < 256) × (at + j < 65536) × (from < 2 ^ 61) × (2 * (3 + 2 * k) ≤ length (now area)) ⌝ }
     ensures { λ r. ⌜ StagedTo k (chosenAt at (now (words .entry)) from (now (skip .entry)) j) left (now (area .entry)) (now (area .exit)) r ⌝ }
 {
     if bits::byte(skip, j) != 0 {
@@ -57,7 +73,7 @@ fn stage_word(
             pairs: k,
         };
     }
-    let v = bits::field(words, from + 16 * j, 16);
+    let v = value(words, from, j);
     let rest = put_pair(area, left, k, (at + j) as u16, v);
     Staged {
         left: rest,
@@ -75,7 +91,7 @@ fn stage_words(
     from: usize,
     skip: &[u8],
 ) -> Staged
-    requires { ⌜ (n < 256) × (at + n < 65536) × (from < 2 ^ 61) ⌝ }
+    requires { ⌜ (n < 256) × (at + n < 65536) × (from < 2 ^ 61) × (2 * (1 + 2 * n) ≤ length (now area)) ⌝ }
     ensures { λ r. ⌜ StagedTo 0 (chosen at (now (words .entry)) from (now (skip .entry)) n) left (now (area .entry)) (now (area .exit)) r ⌝ }
 {
     let mut rest = left;
@@ -103,7 +119,7 @@ fn stage(
     from: usize,
     skip: &[u8],
 ) -> Staged
-    requires { ⌜ (n < 256) × (at + n < 65536) × (from < 2 ^ 61) ⌝ }
+    requires { ⌜ (n < 256) × (at + n < 65536) × (from < 2 ^ 61) × (2 * (1 + 2 * n) ≤ length (now area)) ⌝ }
     ensures { λ r. ⌜ Announced (chosen at (now (words .entry)) from (now (skip .entry)) n) left (now (area .entry)) (now (area .exit)) r ⌝ }
 {
     let done = stage_words(area, left, at, n, words, from, skip);
@@ -120,7 +136,7 @@ fn stage(
 
 // The words of the first n pairs of WORK. Answers the stores left.
 fn apply(image: &mut [u8], work: usize, n: usize, left: usize) -> usize
-    requires { ⌜ (n < 256) × (work < 65536) ⌝ }
+    requires { ⌜ (n < 256) × (work < 65536) × (2 * (work + 1 + 2 * n) ≤ length (now image)) ⌝ }
     requires { ⌜ ((j : ℕ) → j < n → wordAt (now image) (work + 1 + 2 * j) < work) ⌝ }
     ensures { λ r. ⌜ Ran (pairsAt work (now (image .entry)) n) left (now (image .entry)) (now (image .exit)) r ⌝ }
 {
@@ -128,8 +144,8 @@ fn apply(image: &mut [u8], work: usize, n: usize, left: usize) -> usize
     let mut j: usize = 0;
     while j < n {
         let at = work + 1 + 2 * j;
-        let o = bits::word(image, at) as usize;
-        let v = bits::word(image, at + 1);
+        let o = bits::word_in(image, at) as usize;
+        let v = bits::word_in(image, at + 1);
         rest = spend(image, rest, o, v);
         j += 1;
     }
@@ -138,7 +154,7 @@ fn apply(image: &mut [u8], work: usize, n: usize, left: usize) -> usize
 
 // The words of the first n pairs of WORK, then the count 0. Answers the stores left.
 fn settle(image: &mut [u8], work: usize, n: usize, left: usize) -> usize
-    requires { ⌜ (n < 256) × (work < 65536) ⌝ }
+    requires { ⌜ (n < 256) × (work < 65536) × (2 * (work + 1 + 2 * n) ≤ length (now image)) ⌝ }
     requires { ⌜ ((j : ℕ) → j < n → wordAt (now image) (work + 1 + 2 * j) < work) ⌝ }
     ensures { λ r. ⌜ Ran (finished work (pairsAt work (now (image .entry)) n)) left (now (image .entry)) (now (image .exit)) r ⌝ }
 {

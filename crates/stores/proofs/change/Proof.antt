@@ -28,7 +28,7 @@ settle-requires c κs = let a = c .before .before .before .before .before .befor
     let few : length xs ≤ a .n = chosen-most (a .at) (now (a .words)) (a .from) (now (a .skip)) (a .n) in
     let h : 0 < length xs = omega (arith, c .before .before .if1 .left, c .before .before .before .before .before .stage .ensures .pairs) in
     let e : c .before .before .before .before .before .stage .result .pairs ≡ length xs = c .before .before .before .before .before .stage .ensures .pairs in
-    ((omega arith, omega arith), λ j l. change-under (a .work) (now (a .image)) (omega arith) (c .before .before .before .before .before .stage .ensures) h (c .before .if2 .left) (omega arith) (chosen-under (a .at) (now (a .words)) (a .from) (now (a .skip)) (a .n) (a .work) (omega arith)) j (rw e at l))
+    ((omega arith, omega arith, omega arith), λ j l. change-under (a .work) (now (a .image)) (omega arith) (c .before .before .before .before .before .stage .ensures) h (c .before .if2 .left) (omega arith) (chosen-under (a .at) (now (a .words)) (a .from) (now (a .skip)) (a .n) (a .work) (omega arith)) j (rw e at l))
 
 returns-3 : tie.Need-returns-3
 returns-3 c = let a = c .before .before .before .before .before .before .before .before .before .before .before .before .before .args in

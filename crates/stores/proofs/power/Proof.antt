@@ -17,7 +17,7 @@ settle-requires : tie.Need-settle-requires
 settle-requires c κs = let a = c .before .before .before .before .before .args in
     let g = c .before .before .before .before .before .pre in
     let e = c .before .word .ensures in
-    ((omega (arith, g .content 0 .count, g .header .pairs-most), omega arith), λ j l. pending-under (a .y) (now (a .image)) g j (rw e at l))
+    ((omega (arith, g .content 0 .count, g .header .pairs-most), omega arith, omega (arith, g .content 0 .count, g .header .whole, g .header .work .least)), λ j l. pending-under (a .y) (now (a .image)) g j (rw e at l))
 
 epc-crc-requires : tie.Need-epc-crc-requires
 epc-crc-requires c κs = let a = c .before .before .before .before .before .before .before .before .before .args in

@@ -5,7 +5,7 @@ use Rattle.stores.proofs.spend.Statement.{statement}
 use Rattle.stores.proofs.spend.Tie as tie
 
 returns-2 : tie.Need-returns-2
-returns-2 c = ran-one _ _ (c .before .before .before .before .if1 .left) (c .before .before .store-word .ensures)
+returns-2 c = ran-one _ _ (c .before .before .before .before .if1 .left) (c .before .before .store-word-in .ensures)
 
 pub spend-spec : {M : Type 1} → statement M
 spend-spec = tie.close

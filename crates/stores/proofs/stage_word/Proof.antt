@@ -12,10 +12,10 @@ returns c = let a = c .before .before .before .before .before .args in
 
 returns-2 : tie.Need-returns-2
 returns-2 c = let a = c .before .before .before .before .before .before .before .before .before .before .args in
-    chose (a .at) (now (a .words)) (a .from) (now (a .skip)) (a .j) _ _ _ (c .before .before .before .before .before .before .byte .ensures) (omega (arith, c .before .before .before .before .before .if1 .left)) (c .before .before .before .before .field .ensures .0) (c .before .before .put-pair .ensures)
+    chose (a .at) (now (a .words)) (a .from) (now (a .skip)) (a .j) _ _ _ (c .before .before .before .before .before .before .byte .ensures) (omega (arith, c .before .before .before .before .before .if1 .left)) (c .before .before .before .before .value .ensures) (c .before .before .put-pair .ensures)
 
 pub stage-word-spec : {M : Type 1} → statement M
 stage-word-spec =
     tie.close
     (tie.spec (search needs) returns (search needs) (search needs) (search needs) (search needs) (search needs)
-    (search needs) (search needs) (search needs) returns-2)
+    (search needs) returns-2)
