@@ -1,34 +1,44 @@
--- Where no error code applies, an order's words lie in the image and its change can be made. Assumes nothing.
+-- Where no error code applies, an order's words lie in the image and can be stored; and an order's ways to its end. Assumes nothing.
 use Prim.Native.Nat.{ℕ, _+_, _-_, _*_, _≤_, _<_}
 use mathlib.Core.Path.{_≡_, refl, sym, ap, _∙_}
 use mathlib.Core.Bool.{Bool, true, false, cond, not, _||_}
-use mathlib.Core.List.{List}
+use mathlib.Core.List.{List, []}
 use native.Mathlib.Omega.{arith}
 use lib.Dec.{eqb, leb, ltb}
-use lib.ListN.{length}
-use borrow.Author.Tests.{ltb-false, leb-false, not-false}
+use lib.ListN.{length, take}
+use lib.Seq.{take-all}
+use borrow.Author.Tests.{ltb-true, ltb-false, leb-false, lt-ltb, le-ltb, not-false}
 use Rattle.image.specs.declared.Layout.{Layout}
 use Rattle.image.specs.Layout.{end, blocksIn, pairsIn}
 use Rattle.image.specs.Content.{lockWord}
-use Rattle.image.specs.Rules.{Header}
+use Rattle.image.specs.Rules.{Header, Good}
 use Rattle.frames.specs.declared.Span.{Span}
 use Rattle.frames.specs.declared.Order.{Order}
 use Rattle.frames.specs.declared.Order.the-variants as order
-use Rattle.replies.specs.Replies.{replyEnd}
+use Rattle.replies.specs.declared.Reply.{Reply}
+use Rattle.replies.specs.declared.Reply.the-variants as reply
+use Rattle.replies.specs.Pack.{packed}
+use Rattle.replies.proofs.Laws.{packed-none}
+use Rattle.stores.specs.Stores.{changeStores}
+use Rattle.stores.specs.Steps.{Made}
+use Rattle.bits.specs.Words.{Store, after}
+use Rattle.rights.proofs.Banks.{bank-end as Banks·bank-end}
 use Rattle.rights.specs.declared.Code.{Code}
 use Rattle.rights.specs.declared.Code.the-variants as code
 use Rattle.bits.specs.Bits.{bitAt}
 use Rattle.bits.specs.Below.{every}
 use Rattle.rights.specs.Rights.{bankOf, beyond, mayWrite, badPc, spanWords, readCode, writeCode, lockedTo, pairBreaks, lockCode, notPerma, permaReadCode, permaCode}
-use Rattle.changes.specs.Changes.{Holds, Makes, wordsOf}
+use Rattle.changes.specs.Changes.{Holds}
 use Rattle.tag.specs.declared.Half.{Half}
 use Rattle.tag.specs.declared.Half.the-variants as half
 use Rattle.tag.specs.declared.Link.{Link}
+use Rattle.tag.specs.declared.State.{State}
+use Rattle.tag.specs.declared.Part.the-variants as part
 use Rattle.tag.specs.declared.Live.{Live}
 use Rattle.frames.specs.declared.Command.{Command}
 use Rattle.tag.specs.Result.{Result, result}
-use Rattle.tag.specs.Commands.{asksOf, linkOf, wrongCommand, breaks, codeOf, placeOf, killReply, killWords, replyAfter, wordsAfter}
-use Rattle.tag.specs.Steps.{Placed, Shown, killChange, changeAfter, kept, droppedWith, orderOf, commandOf}
+use Rattle.tag.specs.Commands.{asksOf, linkOf, isSecured, wrongCommand, breaks, codeOf, placeOf}
+use Rattle.tag.specs.Steps.{waiting, gateBy, kept, errorEnd, tellEnd, storeEnd, doneEnd, actOf, byCode, droppedWith, movedWith, orderOf, commandOf}
 
 -- a row that does not hold, and those after it
 none-row : (b : Bool) (e : ℕ) (rest : Code) → cond b (code.Error e) rest ≡ code.Nothing → (b ≡ false) × (rest ≡ code.Nothing)
@@ -49,13 +59,7 @@ none-or false b h = (refl, h)
 module _ (y : Layout) (h : List ℕ) (g : Header y h) where
   -- every bank ends before WORK
   bank-end : (b : ℕ) → end (bankOf y b) ≤ y .work .at
-  bank-end b = go (eqb b 0) (eqb b 1) (eqb b 2)
-    where
-      go : (p q r : Bool) → end (cond p (y .reserved) (cond q (y .epc) (cond r (y .tid) (y .user)))) ≤ y .work .at
-      go true q r = omega arith
-      go false true r = omega arith
-      go false false true = omega arith
-      go false false false = omega arith
+  bank-end b = omega (arith, Banks·bank-end y h b g, g .work .at)
 
   pub within-bank : (s : Span) → beyond y s ≡ false → (s .pointer < bankOf y (s .bank) .words) × (s .pointer + s .count ≤ bankOf y (s .bank) .words)
   within-bank s e =
@@ -119,79 +123,124 @@ module _ (y : Layout) (h : List ℕ) (g : Header y h) where
       go true = omega (arith, within-bank s e)
       go false = omega (arith, within-bank s e)
 
-  module _ (m : List ℕ) (q : Bool) (k : Link) (f : List ℕ) where
-    pub shown : (o : Order) → codeOf y m q k f o ≡ code.Nothing → Shown y o
-    shown order.ReqRn e = tt
-    shown (order.Read s) e =
-        let w = within-bank s (read-rows m q s e) in
-        (omega (arith, w, bank-end (s .bank), work-small), omega (arith, w))
-    shown (order.Write s w) e = tt
-    shown (order.Kill h) e = tt
-    shown (order.Lock mask action) e = tt
-    shown (order.Access h) e = tt
-    shown (order.BlockWrite s p) e = tt
-    shown (order.BlockErase s) e = tt
-    shown (order.ReadPermalock r s) e = let w = read-perma-rows s e in omega (arith, g .work .at, work-small)
-    shown (order.Permalock r s p) e = tt
-
-    killed-makes : (a : Half) → Makes (y .work .at) (length h) (killChange y a)
-    killed-makes half.Nothing = tt
-    killed-makes (half.Access up) = tt
-    killed-makes (half.Kill up) = held-low (y .status .at + 1) (omega (arith, g .status .at))
-
-    pub makes : (o : Order) → Placed o → codeOf y m q k f o ≡ code.Nothing → Makes (y .work .at) (length h) (changeAfter y m k o)
-    makes order.ReqRn p e = tt
-    makes (order.Read s) p e = tt
-    makes (order.Write s w) p e =
-        let r = write-rows m q s _ e in
-        held-span s 1 (omega (arith, g .pairs-least)) (omega (arith, within-bank s (r .0)))
-    makes (order.Kill h) p e = killed-makes (k .half)
-    makes (order.Lock mask action) p e = held-low (y .status .at) (omega (arith, g .status .at))
-    makes (order.Access h) p e = tt
-    makes (order.BlockWrite s b) p e =
-        let r = write-rows m q s _ e in
-        (held-span s (s .count) (r .1) (within-bank s (r .0) .1), omega (arith, p))
-    makes (order.BlockErase s) p e = let r = write-rows m q s _ e in held-span s (s .count) (r .1) (within-bank s (r .0) .1)
-    makes (order.ReadPermalock r s) p e = tt
-    makes (order.Permalock r s b) p e =
-        let w = perma-rows m s f b e in
-        (held (y .perma .at + s .pointer) (s .count) (omega (arith, w .0, g .work .at)) (omega (arith, perma-small, g .pairs-least)), omega (arith, p), omega (arith, w .0, perma-small))
-
-    kill-end : (n : ℕ) (a : Half) → replyEnd (killReply n a) ≡ 0
-    kill-end n half.Nothing = refl
-    kill-end n (half.Access up) = refl
-    kill-end n (half.Kill up) = refl
-
-    pub reply-end : (fresh : ℕ) (o : Order) → codeOf y m q k f o ≡ code.Nothing → 2 * replyEnd (replyAfter y fresh k o) ≤ length h
-    reply-end fresh order.ReqRn e = omega arith
-    reply-end fresh (order.Read s) e =
+  module _ (m : List ℕ) (q : Bool) where
+    -- the words of a Read, and of a BlockPermalock that reads
+    pub read-fits : (s : Span) → readCode y m q s ≡ code.Nothing → (2 * (placeOf y s + spanWords y s) ≤ length h) × (spanWords y s < 65536)
+    read-fits s e =
         let r = span-end s (read-rows m q s e) in
-        omega (arith, bank-end (s .bank), g .whole)
-    reply-end fresh (order.Write s w) e = omega arith
-    reply-end fresh (order.Kill h) e = omega (arith, kill-end (k .handle) (k .half))
-    reply-end fresh (order.Lock mask action) e = omega arith
-    reply-end fresh (order.Access h) e = omega arith
-    reply-end fresh (order.BlockWrite s p) e = omega arith
-    reply-end fresh (order.BlockErase s) e = omega arith
-    reply-end fresh (order.ReadPermalock r s) e = let w = read-perma-rows s e in omega (arith, g .work .at, g .whole)
-    reply-end fresh (order.Permalock r s p) e = omega arith
+        (omega (arith, r, bank-end (s .bank), g .whole), omega (arith, r, bank-end (s .bank), work-small))
 
-    killed-words : (a : Half) → wordsOf m f (killChange y a) ≡ killWords y a
-    killed-words half.Nothing = refl
-    killed-words (half.Access up) = refl
-    killed-words (half.Kill up) = refl
+    pub read-perma-fits : (s : Span) → permaReadCode y s ≡ code.Nothing → (2 * (y .perma .at + s .pointer + s .count) ≤ length h) × (s .count < 65536)
+    read-perma-fits s e =
+        let w = read-perma-rows s e in
+        (omega (arith, w, g .work .at, g .whole), omega (arith, w, perma-small))
 
-    pub same-words : (o : Order) → wordsOf m f (changeAfter y m k o) ≡ wordsAfter y m k f o
-    same-words order.ReqRn = refl
-    same-words (order.Read s) = refl
-    same-words (order.Write s w) = refl
-    same-words (order.Kill h) = killed-words (k .half)
-    same-words (order.Lock mask action) = refl
-    same-words (order.Access h) = refl
-    same-words (order.BlockWrite s p) = refl
-    same-words (order.BlockErase s) = refl
-    same-words (order.ReadPermalock r s) = refl
-    same-words (order.Permalock r s p) = refl
+    -- the words that are stored
+    pub word-held : (s : Span) (pc : ℕ) → writeCode y m q s pc ≡ code.Nothing → Holds (y .work .at) (placeOf y s) 1 (length h)
+    word-held s pc e =
+        let r = write-rows m q s pc e in
+        held-span s 1 (omega (arith, g .pairs-least)) (omega (arith, within-bank s (r .0)))
+
+    pub words-held : (s : Span) (pc : ℕ) → writeCode y m q s pc ≡ code.Nothing → Holds (y .work .at) (placeOf y s) (s .count) (length h)
+    words-held s pc e = let r = write-rows m q s pc e in held-span s (s .count) (r .1) (within-bank s (r .0) .1)
+
+    pub mask-held : (s : Span) (f : List ℕ) (p : ℕ) → permaCode y m s f p ≡ code.Nothing
+        → Holds (y .work .at) (y .perma .at + s .pointer) (s .count) (length h) × (s .count ≤ 16)
+    mask-held s f p e =
+        let w = perma-rows m s f p e in
+        (held (y .perma .at + s .pointer) (s .count) (omega (arith, w .0, g .work .at)) (omega (arith, w .0, perma-small, g .pairs-least)), omega (arith, w .0, perma-small))
+
+  pub lock-held : Holds (y .work .at) (y .status .at) 1 (length h)
+  lock-held = held-low (y .status .at) (omega (arith, g .status .at))
+
+  pub killed-held : Holds (y .work .at) (y .status .at + 1) 1 (length h)
+  killed-held = held-low (y .status .at + 1) (omega (arith, g .status .at))
+
+-- a good image has a header
+pub good-long : (y : Layout) (m : List ℕ) → Good y m → 32 ≤ length m
+good-long y m g = let h = g .header in omega arith
+
+-- without a store neither WORK nor the power counts
+pub tell-any : (l : Live) (w : ℕ) (m room : List ℕ) (s : ℕ) (r : Reply) (st : State) → tellEnd l m room r st ≡ doneEnd l w m room s r st []
+unfolding doneEnd
+tell-any l w m room s r st = let e : ltb s 0 ≡ false = le-ltb s 0 (omega arith) in rw e
+
+pub silence-any : (l : Live) (w : ℕ) (m room : List ℕ) (s : ℕ) (st : State) → result (movedWith l st) m room ≡ doneEnd l w m room s reply.Silence st []
+unfolding doneEnd
+silence-any l w m room s st =
+    let a : ltb (length room) 0 ≡ false = le-ltb (length room) 0 (omega arith) in
+    let b : ltb s 0 ≡ false = le-ltb s 0 (omega arith) in
+    rw (a, b, packed-none)
+
+-- a change's stores, and what they leave to say
+module _ (l : Live) (w : ℕ) (m room : List ℕ) (s : ℕ) (st : State) (ss : List Store) where
+  pub store-small : length room < 5 → kept 4 l m room ≡ doneEnd l w m room s (reply.Success (linkOf (l .state) .handle)) st ss
+  unfolding doneEnd
+  store-small h = simp (lt-ltb _ _ h)
+
+  module _ {n : List ℕ} {k need : ℕ} (h : 5 ≤ length room) (e : need ≡ length (changeStores w ss)) (p : Made (changeStores w ss) s m n k) where
+    store-cut : ltb s (length (changeStores w ss)) ≡ true → storeEnd l st n room k need s ≡ doneEnd l w m room s (reply.Success (linkOf (l .state) .handle)) st ss
+    unfolding storeEnd doneEnd
+    store-cut q =
+        let c : k ≡ s = omega (arith, p .made, ltb-true s (length (changeStores w ss)) q) in
+        let small : ltb (length room) 5 ≡ false = le-ltb (length room) 5 h in
+        rw (e, c, p .image) (simp (small, q))
+
+    store-whole : ltb s (length (changeStores w ss)) ≡ false → storeEnd l st n room k need s ≡ doneEnd l w m room s (reply.Success (linkOf (l .state) .handle)) st ss
+    unfolding storeEnd doneEnd
+    store-whole q =
+        let c : k ≡ length (changeStores w ss) = omega (arith, p .made, ltb-false s (length (changeStores w ss)) q) in
+        let d : take s (changeStores w ss) ≡ changeStores w ss = take-all s (changeStores w ss) (ltb-false s (length (changeStores w ss)) q) in
+        let small : ltb (length room) 5 ≡ false = le-ltb (length room) 5 h in
+        rw (e, c, p .image, d) (simp (small, q))
+
+    pub store-end : storeEnd l st n room k need s ≡ doneEnd l w m room s (reply.Success (linkOf (l .state) .handle)) st ss
+    store-end = go (ltb s (length (changeStores w ss))) refl
+      where
+        go : (b : Bool) → ltb s (length (changeStores w ss)) ≡ b → storeEnd l st n room k need s ≡ doneEnd l w m room s (reply.Success (linkOf (l .state) .handle)) st ss
+        go true q = store-cut q
+        go false q = store-whole q
+
+-- an order by its error code
+module _ (l : Live) (y : Layout) (m f : List ℕ) (fresh : ℕ) (room : List ℕ) (s : ℕ) (o : Order) where
+  pub order-done : codeOf y m (isSecured (l .state)) (linkOf (l .state)) f o ≡ code.Nothing → actOf l y m f fresh room s o ≡ orderOf l y m f fresh room s o
+  order-done e = sym (ap (λ (c : Code). byCode c l y m f fresh room s o) e)
+
+  pub order-error : (e : ℕ) → codeOf y m (isSecured (l .state)) (linkOf (l .state)) f o ≡ code.Error e → errorEnd l m room e ≡ orderOf l y m f fresh room s o
+  order-error e h = sym (ap (λ (c : Code). byCode c l y m f fresh room s o) h)
+
+-- orders that do the same come to the same
+pub same-order : (e : Code) (l : Live) (y : Layout) (m room f f₁ : List ℕ) (fresh fresh₁ s s₁ : ℕ) (o o₁ : Order) → actOf l y m f fresh room s o ≡ actOf l y m f₁ fresh₁ room s₁ o₁
+    → byCode e l y m f fresh room s o ≡ byCode e l y m f₁ fresh₁ room s₁ o₁
+same-order code.Nothing l y m room f f₁ fresh fresh₁ s s₁ o o₁ h = h
+same-order (code.Error e) l y m room f f₁ fresh fresh₁ s s₁ o o₁ h = refl
+
+-- the gate's number, and which test it is of
+pub gate-wrong : (a b : Bool) {n : ℕ} → n ≡ gateBy a b → n ≡ 9 → a ≡ true
+gate-wrong true b e h = refl
+gate-wrong false true e h = absurd (omega arith)
+gate-wrong false false e h = absurd (omega arith)
+
+pub gate-broken : (a b : Bool) {n : ℕ} → n ≡ gateBy a b → (n ≡ 9 → ⊥) → (n ≡ 0 → ⊥) → (a ≡ false) × (b ≡ true)
+gate-broken true b e p q = absurd (p e)
+gate-broken false true e p q = (refl, refl)
+gate-broken false false e p q = absurd (q e)
+
+pub gate-open : (a b : Bool) {n : ℕ} → n ≡ gateBy a b → n ≡ 0 → (a ≡ false) × (b ≡ false)
+gate-open true b e h = absurd (omega arith)
+gate-open false true e h = absurd (omega arith)
+gate-open false false e h = (refl, refl)
+
+-- what breaks halves, for orders that have no part in a password
+pub breaks-number : (y : Layout) (m : List ℕ) (k : Link) (h : Half) → breaks y m k h part.Number ≡ false
+breaks-number y m k half.Nothing = refl
+breaks-number y m k (half.Access up) = refl
+breaks-number y m k (half.Kill up) = refl
+
+pub breaks-other : (y : Layout) (m : List ℕ) (k : Link) (h : Half) → breaks y m k h part.Other ≡ waiting h
+breaks-other y m k half.Nothing = refl
+breaks-other y m k (half.Access up) = refl
+breaks-other y m k (half.Kill up) = refl
 
 -- a command's three ways: wrong, broken, or by its order
 module _ (l : Live) (y : Layout) (m f : List ℕ) (fresh : ℕ) (room : List ℕ) (s : ℕ) (c : Command) where

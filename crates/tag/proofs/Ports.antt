@@ -1,38 +1,45 @@
 -- The port's table is what the code does, and its mask chooses the words that may be written. Assumes nothing.
 use Prim.Native.Nat.{ℕ, zero, suc, _+_, _-_, _*_, _/_, _%_, _≤_, _<_}
 use mathlib.Core.Path.{_≡_, refl, sym, ap, ap₂, _∙_, subst}
-use mathlib.Core.Bool.{Bool, true, false, cond, not, _&&_, _||_, and-true, and-false}
+use mathlib.Core.Bool.{true≢false, Bool, true, false, cond, not, _&&_, _||_, and-true, and-false}
 use mathlib.Core.List.{List, [], _∷_, _++_}
 use native.Mathlib.Omega.{arith}
 use native.Mathlib.Numerals.{add-one}
 use native.Mathlib.Decide.{decLt}
 use lib.Dec.{eqb, ltb}
-use lib.ListN.{length, getD, set, take, replicate, length-append}
+use lib.ListN.{length, getD, set, take, length-append}
 use lib.Seq.{getD-set-same, getD-set-other}
 use borrow.Author.Tests.{ltb-false, eqb-true, eqb-false, lt-ltb, le-ltb, eq-eqb, ne-eqb}
 use Rattle.bits.specs.Words.{wordAt, Store, store, after}
-use Rattle.bits.specs.Bits.{fieldAt, wordsBits}
+use Rattle.bits.specs.Bits.{fieldAt}
 use Rattle.bits.specs.Below.{every}
-use Rattle.bits.proofs.Below.{same-test}
+use Rattle.bits.proofs.Below.{same-test, every-at}
 use Rattle.bits.proofs.Windows.{field-word}
 use Rattle.image.specs.declared.Layout.{Layout}
 use Rattle.image.specs.Layout.{layoutOf, pairsIn}
 use Rattle.image.specs.Content.{countIn, lockWord}
-use Rattle.image.specs.Check.{short, headerWrong, contentBroken}
-use Rattle.image.specs.Rules.{Header}
+use Rattle.image.specs.Check.{refused, good, rowOf, short, headerWrong, contentBroken, checkOf}
+use Rattle.image.specs.Rules.{Header, Good}
+use Rattle.image.specs.Steps.{readyRow}
+use Rattle.image.proofs.Answers.{ready-none, row-0}
+use Rattle.image.proofs.Answers.{row-ready as Answers·row-ready}
+use Rattle.image.proofs.Answers.{row-pending as Answers·row-pending}
 use Rattle.rights.specs.Rights.{pwdBit, blockOpen}
 use Rattle.replies.specs.Pack.{packed}
 use Rattle.stores.specs.Stores.{changeStores}
 use Rattle.stores.specs.Steps.{Made, chosen}
 use Rattle.stores.proofs.Changes.{change-needs}
 use Rattle.tag.specs.declared.Live.{Live}
+use Rattle.tag.specs.declared.Power.{Power}
+use Rattle.tag.specs.declared.Power.the-variants as power
 use Rattle.tag.specs.declared.Session.{Session}
 use Rattle.tag.specs.Session.{offSession}
-use Rattle.tag.specs.Result.{Result}
+use Rattle.tag.specs.Result.{Result, leaves}
 use Rattle.tag.specs.Commands.{isKilled, accessWord}
+use Rattle.tag.specs.Table.{isOff, liveOf}
 use Rattle.tag.specs.Steps.{kept, neededFor, onSession}
 use Rattle.tag.specs.Port.{bitOf, registerTo, withKilled, withUnwritten, transferred, badCount, badData, readBits, readOf, portWrites, writtenWords, portWords, someUnwritten, writeOf}
-use Rattle.tag.specs.PortSteps.{gated, readEnd, writeEnd, portOpen, passing, Masked}
+use Rattle.tag.specs.PortSteps.{gated, heldRow, endRow, readRow, afterKilled, writeEnd, portOpen, passing, Masked}
 use Rattle.tag.proofs.Plans.{none-or}
 
 -- the first of three tests that holds
@@ -129,54 +136,212 @@ module _ (l : Live) (y : Layout) (m room : List ℕ) (bad : Bool) (rest : Result
 past-three : (a b c : Bool) (x y z w : Result) → a ≡ false → b ≡ false → c ≡ false → cond a x (cond b y (cond c z w)) ≡ w
 past-three a b c x y z w p q r = rw (p, q, r)
 
--- a read's rows
+-- a read's numbers by tests alone: the check's, the port's, the last ones, and all in order
+abbrev checkRow : Bool → Bool → Bool → ℕ
+checkRow a b c = cond a 1 (cond b 2 (cond c 3 0))
+
+abbrev portRow : Bool → ℕ
+portRow b = cond b 0 6
+
+abbrev lastRow : Bool → Bool → ℕ
+lastRow f g = cond f 13 (cond g 4 0)
+
+abbrev rowBy : ℕ → Bool → ℕ → ℕ → ℕ
+rowBy v w h k = cond (not (eqb v 0)) v (cond w 5 (cond (not (eqb h 0)) h k))
+
+unfoldable firstRow : Bool → Bool → Bool → Bool → Bool → Bool → Bool → ℕ
+firstRow a b c d e f g = cond a 1 (cond b 2 (cond c 3 (cond d 5 (cond e 6 (cond f 13 (cond g 4 0))))))
+
+-- the number as the code finds it
+module _ (h v : ℕ) (m : List ℕ) (at count n : ℕ) where
+  pub row-checked : (v ≡ 0 → ⊥) → v ≡ readRow h v m at count n
+  unfolding readRow
+  row-checked z = rw (ne-eqb v 0 z)
+
+  module _ (z : v ≡ 0) where
+    pub row-pending : not (eqb (countIn (layoutOf m) m) 0) ≡ true → 5 ≡ readRow h v m at count n
+    unfolding readRow
+    row-pending w = rw (eq-eqb v 0 z, w)
+
+    pub row-held : not (eqb (countIn (layoutOf m) m) 0) ≡ false → (h ≡ 0 → ⊥) → h ≡ readRow h v m at count n
+    unfolding readRow
+    row-held w o = rw (eq-eqb v 0 z, w, ne-eqb h 0 o)
+
+    pub row-last : not (eqb (countIn (layoutOf m) m) 0) ≡ false → h ≡ 0 → endRow (layoutOf m) at count n ≡ readRow h v m at count n
+    unfolding readRow
+    row-last w o = rw (eq-eqb v 0 z, w, eq-eqb h 0 o)
+
+pub none-waits : {n : ℕ} → n ≡ 0 → not (eqb n 0) ≡ false
+none-waits {n} z = ap not (eq-eqb n 0 z)
+
+-- the number that an image alone decides is the first row's, where it is not 0
+pub row-ready : (h : ℕ) (m : List ℕ) (at count n : ℕ) {v : ℕ} → v ≡ readyRow m → (v ≡ 0 → ⊥) → v ≡ readRow h (rowOf (checkOf m)) m at count n
+row-ready h m at count n {v} e z = go (eqb v 5) (eqb (countIn (layoutOf m) m) 0) refl refl
+  where
+    go : (a b : Bool) → eqb v 5 ≡ a → eqb (countIn (layoutOf m) m) 0 ≡ b → v ≡ readRow h (rowOf (checkOf m)) m at count n
+    go false b p q =
+        let k = Answers·row-ready m e (eqb-false v 5 p) in
+        k ∙ row-checked h (rowOf (checkOf m)) m at count n (λ o. z (k ∙ o))
+    go true false p q =
+        let five = eqb-true v 5 p in
+        five ∙ row-pending h (rowOf (checkOf m)) m at count n (Answers·row-pending m (sym e ∙ five)) (ap not q)
+    go true true p q = absurd (z (e ∙ ready-none m (eqb-true (countIn (layoutOf m) m) 0 q) (Answers·row-pending m (sym e ∙ eqb-true v 5 p))))
+
+module _ (y : Layout) (at count n : ℕ) where
+  pub end-bad : badCount y at count ≡ true → 13 ≡ endRow y at count n
+  unfolding endRow
+  end-bad e = sym (ap (λ (b : Bool). lastRow b (ltb n (2 * count))) e)
+
+  pub end-small : badCount y at count ≡ false → n < 2 * count → 4 ≡ endRow y at count n
+  unfolding endRow
+  end-small e h = sym (ap₂ lastRow e (lt-ltb n (2 * count) h))
+
+  pub end-fits : badCount y at count ≡ false → 2 * count ≤ n → 0 ≡ endRow y at count n
+  unfolding endRow
+  end-fits e h = sym (ap₂ lastRow e (le-ltb n (2 * count) h))
+
+-- a number that is none of the first seven
+other : (k n : ℕ) → k ≤ n → (n ≡ k → ⊥) → k < n
+other k n h z = omega (arith, z)
+
+pub over-six : (n : ℕ) → (n ≡ 0 → ⊥) → (n ≡ 1 → ⊥) → (n ≡ 2 → ⊥) → (n ≡ 3 → ⊥) → (n ≡ 4 → ⊥) → (n ≡ 5 → ⊥) → (n ≡ 6 → ⊥) → 6 < n
+over-six n a b c d e f g =
+    other 6 n (other 5 n (other 4 n (other 3 n (other 2 n (other 1 n (other 0 n (least n) a) b) c) d) e) f) g
+  where
+    least : (n : ℕ) → 0 ≤ n
+    least n = omega arith
+
+-- 13 is the only one over 6
+first-answers : (a b c d e f g : Bool) → 6 < firstRow a b c d e f g → firstRow a b c d e f g ≡ 13
+unfolding firstRow
+first-answers true b c d e f g h = absurd (omega arith)
+first-answers false true c d e f g h = absurd (omega arith)
+first-answers false false true d e f g h = absurd (omega arith)
+first-answers false false false true e f g h = absurd (omega arith)
+first-answers false false false false true f g h = absurd (omega arith)
+first-answers false false false false false true g h = refl
+first-answers false false false false false false true h = absurd (omega arith)
+first-answers false false false false false false false h = absurd (omega arith)
+
+-- the number of a read's answer, from what its rows ask
 module _ (m : List ℕ) (at count : ℕ) (room : List ℕ) where
-  pub read-short : (v : Session) → short m ≡ true → transferred 1 v 0 0 m room ≡ readOf v m at count room
-  unfolding readOf
-  read-short v p = rw p
+  checked : {v : ℕ} → v ≡ rowOf (checkOf m) → v ≡ checkRow (short m) (headerWrong m) (contentBroken m)
+  unfolding checkOf
+  checked e = e ∙ go (short m) (headerWrong m) (contentBroken m)
+    where
+      go : (a b c : Bool) → rowOf (cond a (refused 1) (cond b (refused 2) (cond c (refused 3) (good (layoutOf m))))) ≡ checkRow a b c
+      go true b c = refl
+      go false true c = refl
+      go false false true = refl
+      go false false false = refl
 
-  pub read-header : (v : Session) → short m ≡ false → headerWrong m ≡ true → transferred 2 v 0 0 m room ≡ readOf v m at count room
-  unfolding readOf
-  read-header v p q = rw (p, q)
+  by-rows : (p : Power) {h v r : ℕ} → h ≡ heldRow p → v ≡ rowOf (checkOf m) → r ≡ readRow h v m at count (length room)
+      → r ≡ firstRow (short m) (headerWrong m) (contentBroken m) (isOff p || not (eqb (countIn (layoutOf m) m) 0)) (not (liveOf p .held)) (badCount (layoutOf m) at count) (ltb (length room) (2 * count))
+  unfolding readRow endRow firstRow
+  by-rows p {h} {v} {r} o e q =
+      q
+      ∙ ap (λ (k : ℕ). rowBy v (not (eqb (countIn (layoutOf m) m) 0)) k (lastRow (badCount (layoutOf m) at count) (ltb (length room) (2 * count)))) o
+      ∙ ap (λ (k : ℕ). rowBy k (not (eqb (countIn (layoutOf m) m) 0)) (heldRow p) (lastRow (badCount (layoutOf m) at count) (ltb (length room) (2 * count)))) (checked e)
+      ∙ go p (short m) (headerWrong m) (contentBroken m) (not (eqb (countIn (layoutOf m) m) 0)) (badCount (layoutOf m) at count) (ltb (length room) (2 * count))
+    where
+      last : (h w f g : Bool) → rowBy 0 w (portRow h) (lastRow f g) ≡ firstRow false false false w (not h) f g
+      last h true f g = refl
+      last true false f g = refl
+      last false false f g = refl
 
-  pub read-content : (v : Session) → short m ≡ false → headerWrong m ≡ false → contentBroken m ≡ true → transferred 3 v 0 0 m room ≡ readOf v m at count room
-  unfolding readOf
-  read-content v p q r = rw (p, q, r)
+      go : (p : Power) (a b c w f g : Bool) → rowBy (checkRow a b c) w (heldRow p) (lastRow f g) ≡ firstRow a b c (isOff p || w) (not (liveOf p .held)) f g
+      go p true b c w f g = refl
+      go p false true c w f g = refl
+      go p false false true w f g = refl
+      go power.Off false false false true f g = refl
+      go power.Off false false false false f g = refl
+      go (power.On l) false false false w f g = last (l .held) w f g
 
-  pub read-off : short m ≡ false → headerWrong m ≡ false → contentBroken m ≡ false → transferred 5 offSession 0 0 m room ≡ readOf offSession m at count room
-  unfolding readOf
-  read-off p q r = rw (p, q, r)
+  -- what a read of row 0 found: no row holds
+  none : (a b c d e f g : Bool) → firstRow a b c d e f g ≡ 0
+      → (a ≡ false) × (b ≡ false) × (c ≡ false) × (d ≡ false) × (e ≡ false) × (f ≡ false) × (g ≡ false)
+  unfolding firstRow
+  none true b c d e f g h = absurd (omega arith)
+  none false true c d e f g h = absurd (omega arith)
+  none false false true d e f g h = absurd (omega arith)
+  none false false false true e f g h = absurd (omega arith)
+  none false false false false true f g h = absurd (omega arith)
+  none false false false false false true g h = absurd (omega arith)
+  none false false false false false false true h = absurd (omega arith)
+  none false false false false false false false h = (refl, refl, refl, refl, refl, refl, refl)
 
-  pub read-live : (l : Live) → short m ≡ false → headerWrong m ≡ false → contentBroken m ≡ false
-      → readOf (onSession l) m at count room ≡ gated l (layoutOf m) m room (badCount (layoutOf m) at count) (readEnd l (layoutOf m) m at count room)
-  unfolding readOf gated readEnd
-  read-live l p q r =
-      past-three (short m) (headerWrong m) (contentBroken m) (kept 1 l m room) (kept 2 l m room) (kept 3 l m room)
-      (gated l (layoutOf m) m room (badCount (layoutOf m) at count) (readEnd l (layoutOf m) m at count room)) p q r
+  module _ (s : Session) {h v r : ℕ} (holds : h ≡ heldRow (s .power)) (checks : v ≡ rowOf (checkOf m)) (row : r ≡ readRow h v m at count (length room)) where
+    pub read-answers : 6 < r → r ≡ 13
+    read-answers h =
+        let k = by-rows (s .power) holds checks row in
+        k ∙ first-answers _ _ _ _ _ _ _ (subst (λ (n : ℕ). 6 < n) k h)
 
--- a read's ends
-module _ (l : Live) (y : Layout) (m : List ℕ) (at count : ℕ) (room : List ℕ) where
-  shown : Bool → Result
-  shown k =
-      transferred 0 (registerTo l (cond k (withKilled (l .register)) (l .register))) (16 * count) 0 m (packed (readBits y m k at count) room)
+    pub read-stops : (r ≡ 0 → ⊥) → leaves r s m room ≡ readOf s m at count room
+    unfolding readOf firstRow
+    read-stops z =
+        let k = by-rows (s .power) holds checks row in
+        ap (λ (n : ℕ). leaves n s m room) k
+        ∙ go (short m) (headerWrong m) (contentBroken m) (isOff (s .power) || not (eqb (countIn (layoutOf m) m) 0)) (not (liveOf (s .power) .held)) (badCount (layoutOf m) at count) (ltb (length room) (2 * count)) (λ e. z (k ∙ e)) _
+      where
+        go : (a b c d e f g : Bool) → (firstRow a b c d e f g ≡ 0 → ⊥) → (t : Result)
+            → leaves (firstRow a b c d e f g) s m room
+            ≡ cond a (leaves 1 s m room) (cond b (leaves 2 s m room) (cond c (leaves 3 s m room) (cond d (leaves 5 s m room) (cond e (leaves 6 s m room) (cond f (leaves 13 s m room) (cond g (leaves 4 s m room) t))))))
+        go true b c d e f g n t = refl
+        go false true c d e f g n t = refl
+        go false false true d e f g n t = refl
+        go false false false true e f g n t = refl
+        go false false false false true f g n t = refl
+        go false false false false false true g n t = refl
+        go false false false false false false true n t = refl
+        go false false false false false false false n t = absurd (n refl)
 
-  pub read-no-room : length room < 2 * count → kept 4 l m room ≡ readEnd l y m at count room
-  unfolding readEnd shown
-  read-no-room h = sym (ap (λ (b : Bool). cond b (kept 4 l m room) (shown (isKilled (l .state)))) (lt-ltb (length room) (2 * count) h))
+    module _ (z : r ≡ 0) where
+      passed : (short m ≡ false) × (headerWrong m ≡ false) × (contentBroken m ≡ false) × (isOff (s .power) || not (eqb (countIn (layoutOf m) m) 0) ≡ false) × (not (liveOf (s .power) .held) ≡ false) × (badCount (layoutOf m) at count ≡ false) × (ltb (length room) (2 * count) ≡ false)
+      passed = none _ _ _ _ _ _ _ (sym (by-rows (s .power) holds checks row) ∙ z)
 
-  roomy : 2 * count ≤ length room → shown (isKilled (l .state)) ≡ readEnd l y m at count room
-  unfolding readEnd shown
-  roomy h = sym (ap (λ (b : Bool). cond b (kept 4 l m room) (shown (isKilled (l .state)))) (le-ltb (length room) (2 * count) h))
+      pub read-good : Good (layoutOf m) m
+      read-good =
+          let p = passed in
+          row-0 m (sym checks ∙ checked checks ∙ sure _ _ _ (p .0) (p .1) (p .2))
+        where
+          sure : (a b c : Bool) → a ≡ false → b ≡ false → c ≡ false → checkRow a b c ≡ 0
+          sure a b c p q r = rw (p, q, r)
 
-  pub read-killed : 2 * count ≤ length room → isKilled (l .state) ≡ true
-      → transferred 0 (registerTo l (withKilled (l .register))) (16 * count) 0 m (packed (replicate (16 * count) 0) room) ≡ readEnd l y m at count room
-  unfolding shown
-  read-killed h k = sym (ap shown k) ∙ roomy h
+      pub read-counts : badCount (layoutOf m) at count ≡ false
+      read-counts = passed .5
 
-  pub read-shows : 2 * count ≤ length room → isKilled (l .state) ≡ false
-      → transferred 0 (registerTo l (l .register)) (16 * count) 0 m (packed (wordsBits m (y .user .at + at) count) room) ≡ readEnd l y m at count room
-  unfolding shown
-  read-shows h k = sym (ap shown k) ∙ roomy h
+      pub read-roomy : 2 * count ≤ length room
+      read-roomy = ltb-false _ _ (passed .6)
+
+      -- the session afterwards
+      shown-by : (p : Power) → isOff p ≡ false → (k : Bool) → cond k (afterKilled p) (record { power = p }) ≡ registerTo (liveOf p) (cond k (withKilled (liveOf p .register)) (liveOf p .register))
+      shown-by power.Off h k = absurd (true≢false h)
+      shown-by (power.On l) h true = refl
+      shown-by (power.On l) h false = refl
+
+      pub read-shows : (k : Bool) → k ≡ isKilled (liveOf (s .power) .state)
+          → transferred 0 (cond k (afterKilled (s .power)) s) (16 * count) 0 m (packed (readBits (layoutOf m) m k at count) room) ≡ readOf s m at count room
+      unfolding readOf
+      read-shows k e =
+          let p = passed in
+          let on = none-or (isOff (s .power)) (not (eqb (countIn (layoutOf m) m) 0)) (p .3) .0 in
+          ap (λ (v : Session). transferred 0 v (16 * count) 0 m (packed (readBits (layoutOf m) m k at count) room)) (shown-by (s .power) on k)
+          ∙ ap (λ (b : Bool). transferred 0 (registerTo (liveOf (s .power)) (cond b (withKilled (liveOf (s .power) .register)) (liveOf (s .power) .register))) (16 * count) 0 m (packed (readBits (layoutOf m) m b at count) room)) e
+          ∙ go _ _ _ _ _ _ _ _ p
+        where
+          go : (a b c d e f g : Bool) (t : Result) → (a ≡ false) × (b ≡ false) × (c ≡ false) × (d ≡ false) × (e ≡ false) × (f ≡ false) × (g ≡ false)
+              → t ≡ cond a (leaves 1 s m room) (cond b (leaves 2 s m room) (cond c (leaves 3 s m room) (cond d (leaves 5 s m room) (cond e (leaves 6 s m room) (cond f (leaves 13 s m room) (cond g (leaves 4 s m room) t))))))
+          go a b c d e f g t h = rw (h .0, h .1, h .2, h .3, h .4, h .5, h .6)
+
+      pub read-killed : (k : Bool) → k ≡ isKilled (liveOf (s .power) .state) → k ≡ true
+          → transferred 0 (afterKilled (s .power)) (16 * count) 0 m (packed (readBits (layoutOf m) m k at count) room) ≡ readOf s m at count room
+      read-killed k e t =
+          ap (λ (b : Bool). transferred 0 (cond b (afterKilled (s .power)) s) (16 * count) 0 m (packed (readBits (layoutOf m) m k at count) room)) (sym t) ∙ read-shows k e
+
+      pub read-lives : (k : Bool) → k ≡ isKilled (liveOf (s .power) .state) → k ≡ false
+          → transferred 0 s (16 * count) 0 m (packed (readBits (layoutOf m) m k at count) room) ≡ readOf s m at count room
+      read-lives k e t =
+          ap (λ (b : Bool). transferred 0 (cond b (afterKilled (s .power)) s) (16 * count) 0 m (packed (readBits (layoutOf m) m k at count) room)) (sym t) ∙ read-shows k e
 
 -- a mask's next byte
 masked-byte : (b : Bool) → eqb (bitOf (not b)) 0 ≡ b
@@ -228,6 +393,16 @@ every-passing t (suc n) = go (every-passing t n) (t n)
 passing-same : (t u : ℕ → Bool) (n : ℕ) → ((j : ℕ) → t j ≡ u j) → passing t n ≡ passing u n
 passing-same t u zero h = refl
 passing-same t u (suc n) h = ap₂ _+_ (passing-same t u n h) (ap bitOf (h n))
+
+-- where every word is open, a mask of zeros
+pub mask-clear : (y : Layout) (m : List ℕ) (at : ℕ) (z : List ℕ) (n : ℕ) → ((j : ℕ) → j < n → getD z j 0 ≡ 0) → every (λ j. blockOpen y m (at + j)) n ≡ true
+    → Masked y m at z n n
+mask-clear y m at z n h e =
+    let t : ℕ → Bool = λ j. blockOpen y m (at + j) in
+    record {
+      same = λ j l. eq-eqb (getD z j 0) 0 (h j l) ∙ sym (every-at t n e j l);
+      count = sym (eqb-true (passing t n) n (sym (every-passing t n) ∙ e));
+    }
 
 -- where the port may write, the words that the mask leaves are those that may be written
 module _ (y : Layout) (m : List ℕ) (at : ℕ) (opened : portOpen y m ≡ true) where

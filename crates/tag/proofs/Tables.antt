@@ -6,12 +6,13 @@ use mathlib.Core.List.{List, []}
 use native.Mathlib.Omega.{arith}
 use lib.Dec.{eqb, ltb}
 use lib.ListN.{length, take}
-use borrow.Author.Tests.{le-ltb, eq-eqb, ne-eqb}
+use borrow.Author.Tests.{le-ltb}
 use Rattle.bits.specs.Words.{Store, after}
 use Rattle.image.specs.declared.Layout.{Layout}
 use Rattle.image.specs.Layout.{layoutOf}
 use Rattle.image.specs.Content.{countIn}
-use Rattle.image.specs.Check.{short, headerWrong, contentBroken}
+use Rattle.image.specs.Check.{short, headerWrong, contentBroken, rowOf, checkOf}
+use Rattle.image.proofs.Answers.{row-some}
 use Rattle.frames.specs.declared.Order.{Order}
 use Rattle.frames.specs.declared.Order.the-variants as order
 use Rattle.frames.specs.declared.Command.{Command}
@@ -129,6 +130,10 @@ module _ (l : Live) (m f : List ℕ) (n fresh : ℕ) (room : List ℕ) (s : ℕ)
       (cond (not (eqb (countIn (layoutOf m) m) 0)) (kept 5 l m room) (cond (l .held) (kept 6 l m room) (rowsFrom7 (heardOf f n)))) p q r
       ∙ ap (λ (t : Result). cond (not (eqb (countIn (layoutOf m) m) 0)) (kept 5 l m room) (cond (l .held) (kept 6 l m room) t)) (heard-rows (heardOf f n))
 
+-- the check's number, where it is none of its refusals
+pub row-left : (m : List ℕ) {v : ℕ} → v ≡ rowOf (checkOf m) → (v ≡ 1 → ⊥) → (v ≡ 2 → ⊥) → (v ≡ 3 → ⊥) → rowOf (checkOf m) ≡ 0
+row-left m e p q r = omega (arith, row-some m, e)
+
 -- rows 1, 2 and 3, and an Off session
 module _ (v : Session) (m f : List ℕ) (n fresh : ℕ) (room : List ℕ) (s : ℕ) where
   pub frame-short : short m ≡ true → everything (input v m f n fresh room s) 1 ≡ frameOf (input v m f n fresh room s)
@@ -169,17 +174,17 @@ module _ (l : Live) (y : Layout) (m f : List ℕ) (n fresh : ℕ) (room : List �
   held-or : Bool → Result
   held-or t = cond t (kept 6 l m room) (heardBy l y m f n fresh room s (heardOf f n))
 
-  pub live-pending : (countIn y m ≡ 0 → ⊥) → kept 5 l m room ≡ liveBy l y m f n fresh room s
+  pub live-pending : not (eqb (countIn y m) 0) ≡ true → kept 5 l m room ≡ liveBy l y m f n fresh room s
   unfolding liveBy held-or
-  live-pending h = sym (ap (λ (b : Bool). cond (not b) (kept 5 l m room) (held-or (l .held))) (ne-eqb (countIn y m) 0 h))
+  live-pending h = sym (ap (λ (b : Bool). cond b (kept 5 l m room) (held-or (l .held))) h)
 
-  pub live-held : countIn y m ≡ 0 → l .held ≡ true → kept 6 l m room ≡ liveBy l y m f n fresh room s
+  pub live-held : not (eqb (countIn y m) 0) ≡ false → l .held ≡ true → kept 6 l m room ≡ liveBy l y m f n fresh room s
   unfolding liveBy held-or
-  live-held z h = sym (ap (λ (b : Bool). cond (not b) (kept 5 l m room) (held-or (l .held))) (eq-eqb (countIn y m) 0 z) ∙ ap held-or h)
+  live-held z h = sym (ap (λ (b : Bool). cond b (kept 5 l m room) (held-or (l .held))) z ∙ ap held-or h)
 
-  pub live-hears : countIn y m ≡ 0 → l .held ≡ false → heardBy l y m f n fresh room s (heardOf f n) ≡ liveBy l y m f n fresh room s
+  pub live-hears : not (eqb (countIn y m) 0) ≡ false → l .held ≡ false → heardBy l y m f n fresh room s (heardOf f n) ≡ liveBy l y m f n fresh room s
   unfolding liveBy held-or
-  live-hears z h = sym (ap (λ (b : Bool). cond (not b) (kept 5 l m room) (held-or (l .held))) (eq-eqb (countIn y m) 0 z) ∙ ap held-or h)
+  live-hears z h = sym (ap (λ (b : Bool). cond b (kept 5 l m room) (held-or (l .held))) z ∙ ap held-or h)
 
   -- what was heard, case by case
   pub heard-malformed : heardOf f n ≡ heard.Malformed → kept 7 l m room ≡ heardBy l y m f n fresh room s (heardOf f n)

@@ -7,35 +7,43 @@ use lib.Dec.{eqb, ltb}
 use lib.ListN.{length, getD, take}
 use Rattle.bits.specs.Words.{after}
 use Rattle.image.specs.declared.Layout.{Layout}
+use Rattle.image.specs.Layout.{layoutOf}
 use Rattle.image.specs.Content.{countIn, lockWord}
 use Rattle.rights.specs.Rights.{pwdBit, blockOpen}
-use Rattle.replies.specs.Pack.{packed}
 use Rattle.stores.specs.Stores.{changeStores}
 use Rattle.tag.specs.declared.Live.{Live}
+use Rattle.tag.specs.declared.Power.{Power}
+use Rattle.tag.specs.declared.Power.the-variants as power
 use Rattle.tag.specs.declared.Session.{Session}
-use Rattle.tag.specs.declared.Answer.the-variants as answer
-use Rattle.tag.specs.declared.Outcome.{Outcome}
 use Rattle.tag.specs.Session.{offSession}
 use Rattle.tag.specs.Result.{Result}
 use Rattle.tag.specs.Commands.{isKilled, accessWord}
 use Rattle.tag.specs.Steps.{kept}
-use Rattle.tag.specs.Port.{bitOf, registerTo, withKilled, withUnwritten, transferred, readBits, portWords, someUnwritten}
-
--- done, with the session, the reply's length, the stores made and the register as it was read
-abbrev pub doneWith : Session → ℕ → ℕ → ℕ → Outcome
-doneWith v reply stores value = record { answer = answer.Done; session = v; reply = reply; stores = stores; value = value }
+use Rattle.tag.specs.Port.{bitOf, registerTo, withKilled, withUnwritten, transferred, badCount, portWords, someUnwritten}
 
 -- a transfer of a session under power on a good image: 5, 6, 13, or what follows
 unfoldable pub gated : Live → Layout → List ℕ → List ℕ → Bool → Result → Result
 gated l y m room bad rest =
     cond (not (eqb (countIn y m) 0)) (kept 5 l m room) (cond (not (l .held)) (kept 6 l m room) (cond bad (kept 13 l m room) rest))
 
--- a read that 13 does not stop
-unfoldable pub readEnd : Live → Layout → List ℕ → ℕ → ℕ → List ℕ → Result
-readEnd l y m at count room =
-    let killed = isKilled (l .state) in
-    cond (ltb (length room) (2 * count)) (kept 4 l m room)
-    (transferred 0 (registerTo l (cond killed (withKilled (l .register)) (l .register))) (16 * count) 0 m (packed (readBits y m killed at count) room))
+-- a read's answer by the session alone: 5, 6, or 0
+abbrev pub heldRow : Power → ℕ
+heldRow power.Off = 5
+heldRow (power.On l) = cond (l .held) 0 6
+
+-- its answer past 6, for a room of n bytes: 13, 4, or 0
+unfoldable pub endRow : Layout → ℕ → ℕ → ℕ → ℕ
+endRow y at count n = cond (badCount y at count) 13 (cond (ltb n (2 * count)) 4 0)
+
+-- its answer, by the session's h and the check's v: the first row that holds, or 0
+unfoldable pub readRow : ℕ → ℕ → List ℕ → ℕ → ℕ → ℕ → ℕ
+readRow h v m at count n =
+    cond (not (eqb v 0)) v (cond (not (eqb (countIn (layoutOf m) m) 0)) 5 (cond (not (eqb h 0)) h (endRow (layoutOf m) at count n)))
+
+-- the session with bit 0 set, under power
+abbrev pub afterKilled : Power → Session
+afterKilled power.Off = offSession
+afterKilled (power.On l) = registerTo l (withKilled (l .register))
 
 -- a write that 13 does not stop
 unfoldable pub writeEnd : Live → Layout → List ℕ → ℕ → List ℕ → ℕ → Result

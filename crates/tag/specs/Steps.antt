@@ -1,13 +1,12 @@
 -- Outcomes, plans and the table's ends as the code makes them. Assumes nothing.
-use Prim.Native.Nat.{ℕ, _+_, _*_, _≤_, _<_}
-use mathlib.Core.Bool.{cond, not}
-use mathlib.Core.List.{List}
+use Prim.Native.Nat.{ℕ, _+_, _*_, _≤_}
+use mathlib.Core.Bool.{Bool, true, false, cond, not, _&&_, _||_}
+use mathlib.Core.List.{List, []}
 use lib.Dec.{eqb, ltb}
 use lib.ListN.{length, take}
 use Rattle.bits.specs.Words.{Store, after}
 use Rattle.image.specs.declared.Layout.{Layout}
-use Rattle.image.specs.Content.{lockWord, countIn}
-use Rattle.frames.specs.declared.Span.{Span}
+use Rattle.image.specs.Content.{countIn}
 use Rattle.frames.specs.declared.Order.{Order}
 use Rattle.frames.specs.declared.Order.the-variants as order
 use Rattle.frames.specs.declared.Command.{Command}
@@ -20,13 +19,10 @@ use Rattle.replies.specs.Replies.{replyBits, replyLength}
 use Rattle.replies.specs.Pack.{packed}
 use Rattle.rights.specs.declared.Code.{Code}
 use Rattle.rights.specs.declared.Code.the-variants as code
-use Rattle.rights.specs.Rights.{bankOf, spanWords, lockedTo}
-use Rattle.changes.specs.declared.Change.{Change}
-use Rattle.changes.specs.declared.Change.the-variants as change
 use Rattle.stores.specs.Stores.{changeStores}
 use Rattle.tag.specs.declared.Half.{Half}
 use Rattle.tag.specs.declared.Half.the-variants as half
-use Rattle.tag.specs.declared.Link.{Link}
+use Rattle.tag.specs.declared.Asks.{Asks}
 use Rattle.tag.specs.declared.State.{State}
 use Rattle.tag.specs.declared.State.the-variants as state
 use Rattle.tag.specs.declared.Live.{Live}
@@ -37,7 +33,7 @@ use Rattle.tag.specs.declared.Answer.the-variants as answer
 use Rattle.tag.specs.declared.Outcome.{Outcome}
 use Rattle.tag.specs.Session.{offSession}
 use Rattle.tag.specs.Result.{Result, result}
-use Rattle.tag.specs.Commands.{asksOf, linkOf, isSecured, isKilled, wrongCommand, breaks, codeOf, used, uncovered, placeOf, stateAfter, replyAfter, wordsAfter}
+use Rattle.tag.specs.Commands.{asksOf, linkOf, isSecured, isKilled, hears, isCovered, wrongCommand, breaks, codeOf, used, stateAfter, replyAfter, wordsAfter}
 use Rattle.tag.specs.Table.{fits, movedTo}
 
 -- an Off session, after so many stores
@@ -57,38 +53,22 @@ Placed (order.BlockErase s) = Unit {0}
 Placed (order.ReadPermalock r s) = Unit {0}
 Placed (order.Permalock r s p) = p ≤ 51
 
--- the words that a reply shows have 16-bit places and counts
-abbrev pub Shown : Layout → Order → Type 0
-Shown y order.ReqRn = Unit {0}
-Shown y (order.Read s) = (placeOf y s < 65536) × (s .pointer ≤ bankOf y (s .bank) .words)
-Shown y (order.Write s w) = Unit {0}
-Shown y (order.Kill h) = Unit {0}
-Shown y (order.Lock m a) = Unit {0}
-Shown y (order.Access h) = Unit {0}
-Shown y (order.BlockWrite s p) = Unit {0}
-Shown y (order.BlockErase s) = Unit {0}
-Shown y (order.ReadPermalock r s) = y .perma .at + s .pointer < 65536
-Shown y (order.Permalock r s p) = Unit {0}
+-- answer 9, from what an order asks
+abbrev pub wrongBy : State → ℕ → Asks → Bool
+wrongBy st n a = not (hears st a n) || (a .cover && not (isCovered (linkOf st .cover))) || a .bad
 
-unfoldable pub replyRead : Layout → ℕ → Span → Reply
-replyRead y handle s = reply.Words (placeOf y s) (spanWords y s) handle
+-- a half waits
+abbrev pub waiting : Half → Bool
+waiting half.Nothing = false
+waiting (half.Access up) = true
+waiting (half.Kill up) = true
 
-abbrev pub killChange : Layout → Half → Change
-killChange y half.Nothing = change.Nothing
-killChange y (half.Access up) = change.Nothing
-killChange y (half.Kill up) = change.Word (y .status .at + 1) 1
+-- the number of the answer that stops an order before its code: wrong, broken, or none
+abbrev pub gateBy : Bool → Bool → ℕ
+gateBy wrong broken = cond wrong 9 (cond broken 12 0)
 
-abbrev pub changeAfter : Layout → List ℕ → Link → Order → Change
-changeAfter y m k order.ReqRn = change.Nothing
-changeAfter y m k (order.Read s) = change.Nothing
-changeAfter y m k (order.Write s w) = change.Word (placeOf y s) (uncovered (k .cover) w)
-changeAfter y m k (order.Kill h) = killChange y (k .half)
-changeAfter y m k (order.Lock mask action) = change.Word (y .status .at) (lockedTo (lockWord y m) mask action)
-changeAfter y m k (order.Access h) = change.Nothing
-changeAfter y m k (order.BlockWrite s p) = change.Frame (placeOf y s) (s .count) p
-changeAfter y m k (order.BlockErase s) = change.Zeros (placeOf y s) (s .count)
-changeAfter y m k (order.ReadPermalock r s) = change.Nothing
-changeAfter y m k (order.Permalock r s p) = change.Mask (y .perma .at + s .pointer) (s .count) p
+abbrev pub gateOf : Layout → List ℕ → State → ℕ → Order → ℕ
+gateOf y m st n o = gateBy (wrongBy st n (asksOf o)) (breaks y m (linkOf st) (linkOf st .half) (asksOf o .part))
 
 -- a session under power
 abbrev pub onSession : Live → Session
@@ -143,6 +123,26 @@ doneEnd l w m room s r st ss =
       room = packed (replyBits m r) room;
     }))
 
+-- a reply without a store: no room for it, or done
+abbrev pub tellEnd : Live → List ℕ → List ℕ → Reply → State → Result
+tellEnd l m room r st = doneEnd l 0 m room 0 r st []
+
+-- after so many of the stores that were needed: too little power, or done
+unfoldable pub storeEnd : Live → State → List ℕ → List ℕ → ℕ → ℕ → ℕ → Result
+storeEnd l st m room made need s =
+    let r = reply.Success (linkOf (l .state) .handle) in
+    cond (ltb s need)
+    (record { number = 11; session = offSession; reply = 0; stores = made; value = 0; image = m; room = room })
+    (record {
+      number = 0;
+      session = movedTo l st;
+      reply = replyLength r;
+      stores = made;
+      value = 0;
+      image = m;
+      room = packed (replyBits m r) room;
+    })
+
 -- how many stores a change of c words needs
 abbrev pub neededFor : ℕ → ℕ
 neededFor c = cond (eqb c 0) 0 (3 * c + 2)
@@ -170,6 +170,10 @@ commandOf l y m f fresh room s c =
     let k = linkOf (l .state) in
     cond (wrongCommand (l .state) c) (kept 9 l m room)
     (cond (breaks y m k (k .half) (asksOf (c .order) .part)) (result (droppedWith l) m room) (orderOf l y m f fresh room s (c .order)))
+
+-- done, with the session, the reply's length, the stores made and the register as it was read
+abbrev pub doneWith : Session → ℕ → ℕ → ℕ → Outcome
+doneWith v reply stores value = record { answer = answer.Done; session = v; reply = reply; stores = stores; value = value }
 
 -- a session as it was, with an answer
 abbrev pub keptWith : Session → Answer → Outcome

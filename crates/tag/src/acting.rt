@@ -1,17 +1,23 @@
-// What a command's order comes to: its error code, or its reply and what it stores (RULES 3.12 to 3.17).
+// What each order does that the session lets pass: an error, or its reply and its stores (RULES 3.12 to 3.17).
 ghost use mathlib.Core.Path.{_≡_};
+ghost use mathlib.Core.List.{[]};
 ghost use Prim.Native.Nat.{_+_, _-_, _*_, _≤_, _<_};
+ghost use lib.ListN.{length};
 ghost use Rattle.bits.specs.Bits.{fieldAt};
-ghost use Rattle.tag.specs.Commands.{codeOf, placeOf, replyAfter};
-ghost use Rattle.tag.specs.Steps.{Placed, Shown, replyRead, killChange, changeAfter};
+ghost use Rattle.image.specs.Layout.{layoutOf};
+ghost use Rattle.image.specs.Rules.{Good};
+ghost use Rattle.tag.specs.Result.{result};
+ghost use Rattle.tag.specs.Commands.{placeOf};
+ghost use Rattle.tag.specs.Steps.{Placed, actOf, orderOf, commandOf};
+use crate::Answer;
 use crate::Half;
-use crate::Link;
+use crate::Live;
+use crate::Outcome;
+use crate::answering;
 use crate::orders;
-use changes::Change;
+use frames::Command;
 use frames::Order;
 use frames::Span;
-use image::Layout;
-use replies::Reply;
 use rights::Code;
 
 // The word that a block write from `pointer` on brings for word 1 of its bank.
@@ -25,111 +31,283 @@ fn second_word(frame: &[u8], pointer: u32, from: usize) -> u16
     bits::field(frame, from, 16)
 }
 
-// The error code of an order.
-pub fn code_of(image: &[u8], y: Layout, secured: bool, k: Link, frame: &[u8], order: Order) -> Code
-    requires { ⌜ Placed order ⌝ }
-    ensures { λ r. ⌜ r ≡ codeOf y (now (image .entry)) secured k (now (frame .entry)) order ⌝ }
-{
-    let cover = k.cover;
-    let half = k.half;
-    match order {
-        Order::ReqRn => Code::Nothing,
-        Order::Read(s) => rights::read_code(image, y, secured, s),
-        Order::Write(s, w) => {
-            let v = orders::uncovered(cover, w);
-            rights::write_code(image, y, secured, s, v)
-        }
-        Order::Kill(_) => orders::kill_code(image, y, half),
-        Order::Lock(mask, action) => rights::lock_code(image, y, mask, action),
-        Order::Access(_) => Code::Nothing,
-        Order::BlockWrite(s, p) => {
-            let v = second_word(frame, s.pointer, p);
-            rights::write_code(image, y, secured, s, v)
-        }
-        Order::BlockErase(s) => rights::write_code(image, y, secured, s, 0),
-        Order::ReadPermalock(_, s) => rights::perma_read_code(y, s),
-        Order::Permalock(_, s, p) => rights::perma_code(image, y, s, frame, p),
-    }
-}
-
 // Where the words of a span stand in the image.
-fn place(y: Layout, s: Span) -> usize
-    ensures { λ r. ⌜ (r ≡ placeOf y s) × (r < 4295032832) ⌝ }
+fn place(image: &[u8], s: Span) -> usize
+    requires { ⌜ 32 ≤ length (now image) ⌝ }
+    ensures { λ r. ⌜ (r ≡ placeOf (layoutOf (now (image .entry))) s) × (r < 4295032832) ⌝ }
 {
-    rights::bank(y, s.bank).at as usize + s.pointer as usize
+    rights::bank_in(image, s.bank).at as usize + s.pointer as usize
 }
 
-// The reply to a Read.
-fn read_reply(y: Layout, handle: u16, s: Span) -> Reply
-    requires { ⌜ Shown y (Order.Read s) ⌝ }
-    ensures { λ r. ⌜ r ≡ replyRead y handle s ⌝ }
+// Req_RN.
+fn req_rn(l: Live, fresh: u16, image: &[u8], room: &mut [u8]) -> Outcome
+    requires { ⌜ Good (layoutOf (now image)) (now image) ⌝ }
+    ensures { λ r. ⌜ result r (now (image .entry)) (now (room .exit)) ≡ orderOf l (layoutOf (now (image .entry))) (now (image .entry)) [] fresh (now (room .entry)) 0 Order.ReqRn ⌝ }
 {
-    let at = place(y, s) as u16;
-    if s.count == 0 {
-        let n = rights::bank(y, s.bank).words as u32 - s.pointer;
-        return Reply::Words(at, n as u16, handle);
-    }
-    Reply::Words(at, s.count, handle)
+    let state = l.state;
+    let next = orders::numbered(image, image::read_layout(image), fresh, state);
+    answering::give_number(l, next, fresh, image, room)
 }
 
-// The reply of an order that is done.
-pub fn reply_after(y: Layout, fresh: u16, k: Link, order: Order) -> Reply
-    requires { ⌜ Shown y order ⌝ }
-    ensures { λ r. ⌜ r ≡ replyAfter y fresh k order ⌝ }
+// Read.
+fn read(l: Live, words: Span, image: &[u8], room: &mut [u8]) -> Outcome
+    requires { ⌜ Good (layoutOf (now image)) (now image) ⌝ }
+    ensures { λ r. ⌜ result r (now (image .entry)) (now (room .exit)) ≡ orderOf l (layoutOf (now (image .entry))) (now (image .entry)) [] 0 (now (room .entry)) 0 (Order.Read words) ⌝ }
 {
-    let handle = k.handle;
-    let half = k.half;
-    match order {
-        Order::ReqRn => Reply::Number(fresh),
-        Order::Read(s) => read_reply(y, handle, s),
-        Order::Write(_, _) => Reply::Success(handle),
-        Order::Kill(_) => orders::kill_reply(handle, half),
-        Order::Lock(_, _) => Reply::Success(handle),
-        Order::Access(_) => Reply::Number(handle),
-        Order::BlockWrite(_, _) => Reply::Success(handle),
-        Order::BlockErase(_) => Reply::Success(handle),
-        Order::ReadPermalock(_, s) => {
-            Reply::Words((y.perma.at as u32 + s.pointer) as u16, s.count, handle)
+    let state = l.state;
+    match rights::read_code(image, orders::is_secured(state), words) {
+        Code::Error(e) => answering::give_error(l, e, image, room),
+        Code::Nothing => {
+            let count = rights::span_words(rights::bank_in(image, words.bank), words);
+            answering::give_words(l, place(image, words), count, image, room)
         }
-        Order::Permalock(_, _, _) => Reply::Success(handle),
     }
 }
 
-// Right Kill stores killed as 1.
-fn kill_change(y: Layout, half: Half) -> Change
-    ensures { λ r. ⌜ r ≡ killChange y half ⌝ }
+// Write.
+fn write(l: Live, word: Span, w: u16, image: &mut [u8], room: &mut [u8], s: usize) -> Outcome
+    requires { ⌜ Good (layoutOf (now image)) (now image) ⌝ }
+    ensures { λ r. ⌜ result r (now (image .exit)) (now (room .exit)) ≡ orderOf l (layoutOf (now (image .entry))) (now (image .entry)) [] 0 (now (room .entry)) s (Order.Write word w) ⌝ }
 {
-    match half {
-        Half::Nothing => Change::Nothing,
-        Half::Access(_) => Change::Nothing,
-        Half::Kill(_) => Change::Word(y.status.at as usize + 1, 1),
+    let state = l.state;
+    let cover = orders::link_of(state).cover;
+    let v = orders::uncovered(cover, w);
+    match rights::write_code(image, orders::is_secured(state), word, v) {
+        Code::Error(e) => answering::give_error(l, e, image, room),
+        Code::Nothing => {
+            let at = place(image, word);
+            let work = image::read_layout(image).work.at as usize;
+            answering::store_word(l, orders::used(state), at, v, work, image, room, s)
+        }
     }
 }
 
-// What an order that is done stores.
-pub fn change_after(image: &[u8], y: Layout, k: Link, order: Order) -> Change
-    ensures { λ r. ⌜ r ≡ changeAfter y (now (image .entry)) k order ⌝ }
+// A half of a Kill that no error stops. Between the halves of an Access none comes here.
+fn kill_done(l: Live, h: u16, image: &mut [u8], room: &mut [u8], s: usize) -> Outcome
+    requires { ⌜ Good (layoutOf (now image)) (now image) ⌝ }
+    ensures { λ r. ⌜ result r (now (image .exit)) (now (room .exit)) ≡ actOf l (layoutOf (now (image .entry))) (now (image .entry)) [] 0 (now (room .entry)) s (Order.Kill h) ⌝ }
 {
-    let cover = k.cover;
+    let state = l.state;
+    let k = orders::link_of(state);
     let half = k.half;
-    let lock = y.status.at as usize;
-    match order {
-        Order::ReqRn => Change::Nothing,
-        Order::Read(_) => Change::Nothing,
-        Order::Write(s, w) => Change::Word(place(y, s), orders::uncovered(cover, w)),
-        Order::Kill(_) => kill_change(y, half),
-        Order::Lock(mask, action) => Change::Word(
-            lock,
-            rights::locked(bits::word(image, lock), mask, action),
-        ),
-        Order::Access(_) => Change::Nothing,
-        Order::BlockWrite(s, p) => Change::Frame(place(y, s), s.count as usize, p),
-        Order::BlockErase(s) => Change::Zeros(place(y, s), s.count as usize),
-        Order::ReadPermalock(_, _) => Change::Nothing,
-        Order::Permalock(_, s, p) => Change::Mask(
-            y.perma.at as usize + s.pointer as usize,
-            s.count as usize,
-            p,
+    let y = image::read_layout(image);
+    let next = orders::killed_by(state, h);
+    match half {
+        Half::Nothing => answering::give_number(l, next, k.handle, image, room),
+        Half::Access(_) => answering::done(answering::moved(l, next), 0, 0, 0),
+        Half::Kill(_) => answering::store_word(
+            l,
+            next,
+            y.status.at as usize + 1,
+            1,
+            y.work.at as usize,
+            image,
+            room,
+            s,
         ),
     }
+}
+
+// Kill.
+fn kill(l: Live, h: u16, image: &mut [u8], room: &mut [u8], s: usize) -> Outcome
+    requires { ⌜ Good (layoutOf (now image)) (now image) ⌝ }
+    ensures { λ r. ⌜ result r (now (image .exit)) (now (room .exit)) ≡ orderOf l (layoutOf (now (image .entry))) (now (image .entry)) [] 0 (now (room .entry)) s (Order.Kill h) ⌝ }
+{
+    let state = l.state;
+    let half = orders::link_of(state).half;
+    match orders::kill_code(image, image::read_layout(image), half) {
+        Code::Error(e) => answering::give_error(l, e, image, room),
+        Code::Nothing => kill_done(l, h, image, room, s),
+    }
+}
+
+// Lock.
+fn lock(l: Live, mask: u16, action: u16, image: &mut [u8], room: &mut [u8], s: usize) -> Outcome
+    requires { ⌜ Good (layoutOf (now image)) (now image) ⌝ }
+    ensures { λ r. ⌜ result r (now (image .exit)) (now (room .exit)) ≡ orderOf l (layoutOf (now (image .entry))) (now (image .entry)) [] 0 (now (room .entry)) s (Order.Lock mask action) ⌝ }
+{
+    let state = l.state;
+    let y = image::read_layout(image);
+    let at = y.status.at as usize;
+    match rights::lock_code(image, y, mask, action) {
+        Code::Error(e) => answering::give_error(l, e, image, room),
+        Code::Nothing => {
+            let v = rights::locked(bits::word(image, at), mask, action);
+            answering::store_word(
+                l,
+                orders::used(state),
+                at,
+                v,
+                y.work.at as usize,
+                image,
+                room,
+                s,
+            )
+        }
+    }
+}
+
+// Access.
+fn access(l: Live, h: u16, image: &[u8], room: &mut [u8]) -> Outcome
+    requires { ⌜ Good (layoutOf (now image)) (now image) ⌝ }
+    ensures { λ r. ⌜ result r (now (image .entry)) (now (room .exit)) ≡ orderOf l (layoutOf (now (image .entry))) (now (image .entry)) [] 0 (now (room .entry)) 0 (Order.Access h) ⌝ }
+{
+    let state = l.state;
+    let k = orders::link_of(state);
+    answering::give_number(l, orders::accessed(state, h), k.handle, image, room)
+}
+
+// BlockWrite.
+fn block_write(
+    l: Live,
+    words: Span,
+    from: usize,
+    frame: &[u8],
+    image: &mut [u8],
+    room: &mut [u8],
+    s: usize,
+) -> Outcome
+    requires { ⌜ Good (layoutOf (now image)) (now image) ⌝ }
+    requires { ⌜ from ≤ 51 ⌝ }
+    ensures { λ r. ⌜ result r (now (image .exit)) (now (room .exit)) ≡ orderOf l (layoutOf (now (image .entry))) (now (image .entry)) (now (frame .entry)) 0 (now (room .entry)) s (Order.BlockWrite words from) ⌝ }
+{
+    let state = l.state;
+    let pc = second_word(frame, words.pointer, from);
+    match rights::write_code(image, orders::is_secured(state), words, pc) {
+        Code::Error(e) => answering::give_error(l, e, image, room),
+        Code::Nothing => {
+            let at = place(image, words);
+            let work = image::read_layout(image).work.at as usize;
+            answering::store_bits(
+                l,
+                at,
+                words.count as usize,
+                frame,
+                from,
+                work,
+                image,
+                room,
+                s,
+            )
+        }
+    }
+}
+
+// BlockErase.
+fn block_erase(l: Live, words: Span, image: &mut [u8], room: &mut [u8], s: usize) -> Outcome
+    requires { ⌜ Good (layoutOf (now image)) (now image) ⌝ }
+    ensures { λ r. ⌜ result r (now (image .exit)) (now (room .exit)) ≡ orderOf l (layoutOf (now (image .entry))) (now (image .entry)) [] 0 (now (room .entry)) s (Order.BlockErase words) ⌝ }
+{
+    let state = l.state;
+    match rights::write_code(image, orders::is_secured(state), words, 0) {
+        Code::Error(e) => answering::give_error(l, e, image, room),
+        Code::Nothing => {
+            let at = place(image, words);
+            let work = image::read_layout(image).work.at as usize;
+            answering::store_zeros(l, at, words.count as usize, work, image, room, s)
+        }
+    }
+}
+
+// BlockPermalock that reads.
+fn read_permalock(l: Live, words: Span, image: &[u8], room: &mut [u8]) -> Outcome
+    requires { ⌜ Good (layoutOf (now image)) (now image) ⌝ }
+    ensures { λ r. ⌜ result r (now (image .entry)) (now (room .exit)) ≡ orderOf l (layoutOf (now (image .entry))) (now (image .entry)) [] 0 (now (room .entry)) 0 (Order.ReadPermalock 0 words) ⌝ }
+{
+    let y = image::read_layout(image);
+    match rights::perma_read_code(y, words) {
+        Code::Error(e) => answering::give_error(l, e, image, room),
+        Code::Nothing => {
+            let at = y.perma.at as usize + words.pointer as usize;
+            answering::give_words(l, at, words.count as usize, image, room)
+        }
+    }
+}
+
+// BlockPermalock that locks.
+fn permalock(
+    l: Live,
+    words: Span,
+    from: usize,
+    frame: &[u8],
+    image: &mut [u8],
+    room: &mut [u8],
+    s: usize,
+) -> Outcome
+    requires { ⌜ Good (layoutOf (now image)) (now image) ⌝ }
+    requires { ⌜ from ≤ 51 ⌝ }
+    ensures { λ r. ⌜ result r (now (image .exit)) (now (room .exit)) ≡ orderOf l (layoutOf (now (image .entry))) (now (image .entry)) (now (frame .entry)) 0 (now (room .entry)) s (Order.Permalock 0 words from) ⌝ }
+{
+    let y = image::read_layout(image);
+    match rights::perma_code(image, y, words, frame, from) {
+        Code::Error(e) => answering::give_error(l, e, image, room),
+        Code::Nothing => {
+            let at = y.perma.at as usize + words.pointer as usize;
+            answering::store_mask(
+                l,
+                at,
+                words.count as usize,
+                frame,
+                from,
+                y.work.at as usize,
+                image,
+                room,
+                s,
+            )
+        }
+    }
+}
+
+// An order that the session lets pass.
+fn by_order(
+    l: Live,
+    order: Order,
+    image: &mut [u8],
+    frame: &[u8],
+    fresh: u16,
+    room: &mut [u8],
+    s: usize,
+) -> Outcome
+    requires { ⌜ Good (layoutOf (now image)) (now image) ⌝ }
+    requires { ⌜ Placed order ⌝ }
+    ensures { λ r. ⌜ result r (now (image .exit)) (now (room .exit)) ≡ orderOf l (layoutOf (now (image .entry))) (now (image .entry)) (now (frame .entry)) fresh (now (room .entry)) s order ⌝ }
+{
+    match order {
+        Order::ReqRn => req_rn(l, fresh, image, room),
+        Order::Read(p) => read(l, p, image, room),
+        Order::Write(p, w) => write(l, p, w, image, room, s),
+        Order::Kill(h) => kill(l, h, image, room, s),
+        Order::Lock(mask, action) => lock(l, mask, action, image, room, s),
+        Order::Access(h) => access(l, h, image, room),
+        Order::BlockWrite(p, from) => block_write(l, p, from, frame, image, room, s),
+        Order::BlockErase(p) => block_erase(l, p, image, room, s),
+        Order::ReadPermalock(_, p) => read_permalock(l, p, image, room),
+        Order::Permalock(_, p, from) => permalock(l, p, from, frame, image, room, s),
+    }
+}
+
+// A command whose frame is whole.
+pub fn command(
+    l: Live,
+    c: Command,
+    image: &mut [u8],
+    frame: &[u8],
+    fresh: u16,
+    room: &mut [u8],
+    s: usize,
+) -> Outcome
+    requires { ⌜ Good (layoutOf (now image)) (now image) ⌝ }
+    requires { ⌜ Placed (c .order) ⌝ }
+    ensures { λ r. ⌜ result r (now (image .exit)) (now (room .exit)) ≡ commandOf l (layoutOf (now (image .entry))) (now (image .entry)) (now (frame .entry)) fresh (now (room .entry)) s c ⌝ }
+{
+    let state = l.state;
+    let order = c.order;
+    let g = orders::gate(state, c.number, image, order);
+    if g == 9 {
+        return answering::refused(l, Answer::Wrong);
+    }
+    if g != 0 {
+        return answering::dropped(l);
+    }
+    by_order(l, order, image, frame, fresh, room, s)
 }

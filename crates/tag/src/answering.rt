@@ -1,30 +1,25 @@
-// The ends of the answer table for a command: wrong, broken, an error, no room, too little power, done (RULES 5).
+// The ends of the answer table for a command: no room, an error, too little power, done (RULES 5).
 ghost use mathlib.Core.Path.{_≡_};
-ghost use mathlib.Core.List.{[]};
-ghost use Prim.Native.Nat.{_*_, _≤_, _<_};
+ghost use mathlib.Core.List.{[], _∷_};
+ghost use Prim.Native.Nat.{_+_, _*_, _≤_, _<_, _^_};
 ghost use lib.ListN.{length};
-ghost use Rattle.replies.specs.Replies.{replyEnd};
-ghost use Rattle.changes.specs.Changes.{Makes, wordsOf};
-ghost use Rattle.image.specs.Rules.{Good};
+ghost use Rattle.bits.specs.Words.{store as storeOf};
+ghost use Rattle.bits.specs.Below.{below};
+ghost use Rattle.changes.specs.Changes.{Holds, orTo};
+ghost use Rattle.stores.specs.Steps.{wordFrom};
+ghost use Rattle.replies.specs.declared.Reply.the-variants as reply;
 ghost use Rattle.tag.specs.Table.{movedTo};
 ghost use Rattle.tag.specs.Result.{result};
-ghost use Rattle.tag.specs.Steps.{Placed, refusedWith, droppedWith, errorEnd, doneEnd, neededFor, actOf, orderOf, commandOf};
-ghost use Rattle.tag.specs.Commands.{codeOf, linkOf, isSecured};
+ghost use Rattle.tag.specs.Commands.{linkOf, used};
+ghost use Rattle.tag.specs.Steps.{refusedWith, droppedWith, doneWith, errorEnd, tellEnd, storeEnd, doneEnd, neededFor};
 use crate::Answer;
 use crate::Live;
 use crate::Outcome;
-use crate::Plan;
 use crate::Power;
 use crate::Session;
 use crate::State;
-use crate::acting;
 use crate::orders;
 use crate::starting;
-use frames::Command;
-use frames::Order;
-use image::Layout;
-use replies::Reply;
-use rights::Code;
 
 // Everything stays.
 pub fn refused(l: Live, answer: Answer) -> Outcome
@@ -55,100 +50,20 @@ pub fn moved(l: Live, state: State) -> Session
     }
 }
 
-// The stores that a change of c words needs.
-pub fn needed(c: usize) -> usize
-    requires { ⌜ c < 256 ⌝ }
-    ensures { λ r. ⌜ (r ≡ neededFor c) × (r < 1024) ⌝ }
+pub fn done(session: Session, reply: usize, stores: usize, value: u8) -> Outcome
+    ensures { λ r. ⌜ r ≡ doneWith session reply stores value ⌝ }
 {
-    if c == 0 {
-        return 0;
-    }
-    3 * c + 2
-}
-
-// An error's reply.
-fn give_error(l: Live, e: u8, image: &[u8], room: &mut [u8]) -> Outcome
-    ensures { λ r. ⌜ result r (now (image .entry)) (now (room .exit)) ≡ errorEnd l (now (image .entry)) (now (room .entry)) e ⌝ }
-{
-    let state = l.state;
-    let k = orders::link_of(state);
-    if room.len() < 6 {
-        return refused(l, Answer::NoRoom);
-    }
-    replies::put(room, image, Reply::Error(e, k.handle));
-    Outcome {
-        answer: Answer::Error,
-        session: moved(l, orders::used(state)),
-        reply: 41,
-        stores: 0,
-        value: 0,
-    }
-}
-
-// What is done, if room and power last.
-fn give_done(
-    l: Live,
-    plan: Plan,
-    image: &mut [u8],
-    work: usize,
-    frame: &[u8],
-    room: &mut [u8],
-    s: usize,
-) -> Outcome
-    requires { ⌜ Makes work (length (now image)) (plan .change) ⌝ }
-    requires { ⌜ 2 * replyEnd (plan .reply) ≤ length (now image) ⌝ }
-    ensures { λ r. ⌜ result r (now (image .exit)) (now (room .exit)) ≡ doneEnd l work (now (image .entry)) (now (room .entry)) s (plan .reply) (plan .state) (wordsOf (now (image .entry)) (now (frame .entry)) (plan .change)) ⌝ }
-{
-    let reply = plan.reply;
-    let change = plan.change;
-    let state = plan.state;
-    let n = replies::bit_count(reply);
-    if room.len() < (n + 7) / 8 {
-        return refused(l, Answer::NoRoom);
-    }
-    if s < needed(changes::count(change)) {
-        let made = changes::make(image, work, change, frame, s);
-        return starting::stopped(Answer::PowerLost, made);
-    }
-    replies::put(room, image, reply);
-    let made = changes::make(image, work, change, frame, s);
     Outcome {
         answer: Answer::Done,
-        session: moved(l, state),
-        reply: n,
-        stores: made,
-        value: 0,
+        session: session,
+        reply: reply,
+        stores: stores,
+        value: value,
     }
-}
-
-// What an order does that no refusal stops.
-fn act(
-    l: Live,
-    y: Layout,
-    order: Order,
-    image: &mut [u8],
-    frame: &[u8],
-    fresh: u16,
-    room: &mut [u8],
-    s: usize,
-) -> Outcome
-    requires { ⌜ Good y (now image) ⌝ }
-    requires { ⌜ Placed order ⌝ }
-    requires { ⌜ codeOf y (now image) (isSecured (l .state)) (linkOf (l .state)) (now frame) order ≡ Code.Nothing ⌝ }
-    ensures { λ r. ⌜ result r (now (image .exit)) (now (room .exit)) ≡ actOf l y (now (image .entry)) (now (frame .entry)) fresh (now (room .entry)) s order ⌝ }
-{
-    let state = l.state;
-    let k = orders::link_of(state);
-    let plan = Plan {
-        state: orders::state_after(image, y, fresh, state, order),
-        reply: acting::reply_after(y, fresh, k, order),
-        change: acting::change_after(image, y, k, order),
-    };
-    give_done(l, plan, image, y.work.at as usize, frame, room, s)
 }
 
 // The password is wrong, or its halves are broken.
-fn dropped(l: Live) -> Outcome
+pub fn dropped(l: Live) -> Outcome
     ensures { λ r. ⌜ r ≡ droppedWith l ⌝ }
 {
     Outcome {
@@ -160,52 +75,172 @@ fn dropped(l: Live) -> Outcome
     }
 }
 
-// An order, by its error code.
-fn by_code(
-    l: Live,
-    y: Layout,
-    order: Order,
-    image: &mut [u8],
-    frame: &[u8],
-    fresh: u16,
-    room: &mut [u8],
-    s: usize,
-) -> Outcome
-    requires { ⌜ Good y (now image) ⌝ }
-    requires { ⌜ Placed order ⌝ }
-    ensures { λ r. ⌜ result r (now (image .exit)) (now (room .exit)) ≡ orderOf l y (now (image .entry)) (now (frame .entry)) fresh (now (room .entry)) s order ⌝ }
+// The stores that a change of c words needs.
+pub fn needed(c: usize) -> usize
+    requires { ⌜ c < 256 ⌝ }
+    ensures { λ r. ⌜ (r ≡ neededFor c) × (r < 1024) ⌝ }
+{
+    if c == 0 {
+        return 0;
+    }
+    3 * c + 2
+}
+
+// The handle of a session under power.
+fn handle(l: Live) -> u16
+    ensures { λ r. ⌜ r ≡ linkOf (l .state) .handle ⌝ }
 {
     let state = l.state;
-    let k = orders::link_of(state);
-    match acting::code_of(image, y, orders::is_secured(state), k, frame, order) {
-        Code::Error(e) => give_error(l, e, image, room),
-        Code::Nothing => act(l, y, order, image, frame, fresh, room, s),
+    orders::link_of(state).handle
+}
+
+// An error's reply.
+pub fn give_error(l: Live, e: u8, image: &[u8], room: &mut [u8]) -> Outcome
+    ensures { λ r. ⌜ result r (now (image .entry)) (now (room .exit)) ≡ errorEnd l (now (image .entry)) (now (room .entry)) e ⌝ }
+{
+    if room.len() < 6 {
+        return refused(l, Answer::NoRoom);
+    }
+    replies::put_error(room, e, handle(l));
+    let state = l.state;
+    Outcome {
+        answer: Answer::Error,
+        session: moved(l, orders::used(state)),
+        reply: 41,
+        stores: 0,
+        value: 0,
     }
 }
 
-// A command whose frame is whole.
-pub fn command(
+// A number, and no store.
+pub fn give_number(l: Live, state: State, number: u16, image: &[u8], room: &mut [u8]) -> Outcome
+    ensures { λ r. ⌜ result r (now (image .entry)) (now (room .exit)) ≡ tellEnd l (now (image .entry)) (now (room .entry)) (reply.Number number) state ⌝ }
+{
+    if room.len() < 4 {
+        return refused(l, Answer::NoRoom);
+    }
+    replies::put_number(room, number);
+    done(moved(l, state), 32, 0, 0)
+}
+
+// Words of the image, and no store.
+pub fn give_words(l: Live, at: usize, count: usize, image: &[u8], room: &mut [u8]) -> Outcome
+    requires { ⌜ (2 * (at + count) ≤ length (now image)) × (count < 65536) ⌝ }
+    ensures { λ r. ⌜ result r (now (image .entry)) (now (room .exit)) ≡ tellEnd l (now (image .entry)) (now (room .entry)) (reply.Words at count (linkOf (l .state) .handle)) (used (l .state)) ⌝ }
+{
+    let n = 16 * count + 33;
+    if room.len() < (n + 7) / 8 {
+        return refused(l, Answer::NoRoom);
+    }
+    replies::put_words(room, image, at, count, handle(l));
+    let state = l.state;
+    done(moved(l, orders::used(state)), n, 0, 0)
+}
+
+// After `made` of the stores that were needed: too little power, or done.
+fn finish(
     l: Live,
-    y: Layout,
-    c: Command,
+    state: State,
+    image: &[u8],
+    room: &mut [u8],
+    made: usize,
+    need: usize,
+    s: usize,
+) -> Outcome
+    requires { ⌜ 5 ≤ length (now room) ⌝ }
+    ensures { λ r. ⌜ result r (now (image .entry)) (now (room .exit)) ≡ storeEnd l state (now (image .entry)) (now (room .entry)) made need s ⌝ }
+{
+    if s < need {
+        return starting::stopped(Answer::PowerLost, made);
+    }
+    replies::put_success(room, image, handle(l));
+    done(moved(l, state), 33, made, 0)
+}
+
+// One word stored.
+pub fn store_word(
+    l: Live,
+    state: State,
+    at: usize,
+    v: u16,
+    work: usize,
     image: &mut [u8],
-    frame: &[u8],
-    fresh: u16,
     room: &mut [u8],
     s: usize,
 ) -> Outcome
-    requires { ⌜ Good y (now image) ⌝ }
-    requires { ⌜ Placed (c .order) ⌝ }
-    ensures { λ r. ⌜ result r (now (image .exit)) (now (room .exit)) ≡ commandOf l y (now (image .entry)) (now (frame .entry)) fresh (now (room .entry)) s c ⌝ }
+    requires { ⌜ Holds work at 1 (length (now image)) ⌝ }
+    ensures { λ r. ⌜ result r (now (image .exit)) (now (room .exit)) ≡ doneEnd l work (now (image .entry)) (now (room .entry)) s (reply.Success (linkOf (l .state) .handle)) state (storeOf at v ∷ []) ⌝ }
 {
+    if room.len() < 5 {
+        return refused(l, Answer::NoRoom);
+    }
+    let made = changes::store_one(image, work, at, v, s);
+    finish(l, state, image, room, made, 5, s)
+}
+
+// Words that a frame brings from bit `from` on.
+pub fn store_bits(
+    l: Live,
+    at: usize,
+    n: usize,
+    frame: &[u8],
+    from: usize,
+    work: usize,
+    image: &mut [u8],
+    room: &mut [u8],
+    s: usize,
+) -> Outcome
+    requires { ⌜ Holds work at n (length (now image)) × (from < 2 ^ 61) ⌝ }
+    ensures { λ r. ⌜ result r (now (image .exit)) (now (room .exit)) ≡ doneEnd l work (now (image .entry)) (now (room .entry)) s (reply.Success (linkOf (l .state) .handle)) (used (l .state)) (below (wordFrom at (now (frame .entry)) from) n) ⌝ }
+{
+    if room.len() < 5 {
+        return refused(l, Answer::NoRoom);
+    }
+    let made = changes::store_bits(image, work, at, n, frame, from, s);
     let state = l.state;
-    if orders::is_wrong(state, c) {
-        return refused(l, Answer::Wrong);
+    finish(l, orders::used(state), image, room, made, needed(n), s)
+}
+
+// Zeros.
+pub fn store_zeros(
+    l: Live,
+    at: usize,
+    n: usize,
+    work: usize,
+    image: &mut [u8],
+    room: &mut [u8],
+    s: usize,
+) -> Outcome
+    requires { ⌜ Holds work at n (length (now image)) ⌝ }
+    ensures { λ r. ⌜ result r (now (image .exit)) (now (room .exit)) ≡ doneEnd l work (now (image .entry)) (now (room .entry)) s (reply.Success (linkOf (l .state) .handle)) (used (l .state)) (below (λ j. storeOf (at + j) 0) n) ⌝ }
+{
+    if room.len() < 5 {
+        return refused(l, Answer::NoRoom);
     }
-    let order = c.order;
-    let part = orders::asks_of(order).part;
-    if orders::breaks(image, y, orders::link_of(state), part) {
-        return dropped(l);
+    let made = changes::store_zeros(image, work, at, n, s);
+    let state = l.state;
+    finish(l, orders::used(state), image, room, made, needed(n), s)
+}
+
+// Words with a frame's bits added.
+pub fn store_mask(
+    l: Live,
+    at: usize,
+    n: usize,
+    frame: &[u8],
+    from: usize,
+    work: usize,
+    image: &mut [u8],
+    room: &mut [u8],
+    s: usize,
+) -> Outcome
+    requires { ⌜ Holds work at n (length (now image)) × (from < 2 ^ 61) × (n ≤ 16) ⌝ }
+    ensures { λ r. ⌜ result r (now (image .exit)) (now (room .exit)) ≡ doneEnd l work (now (image .entry)) (now (room .entry)) s (reply.Success (linkOf (l .state) .handle)) (used (l .state)) (below (orTo (now (image .entry)) (now (frame .entry)) at from) n) ⌝ }
+{
+    if room.len() < 5 {
+        return refused(l, Answer::NoRoom);
     }
-    by_code(l, y, order, image, frame, fresh, room, s)
+    let made = changes::store_mask(image, work, at, n, frame, from, s);
+    let state = l.state;
+    finish(l, orders::used(state), image, room, made, needed(n), s)
 }

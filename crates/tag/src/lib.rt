@@ -9,8 +9,8 @@ mod port;
 mod radio;
 mod starting;
 
-use changes::Change;
-use replies::Reply;
+pub use port::read_row;
+pub use port::show;
 pub use starting::power_up;
 
 // A cover number, if there is one.
@@ -50,9 +50,9 @@ pub struct Register {
 
 // A session under power.
 pub struct Live {
-    pub state: State,
     pub held: bool,
     pub register: Register,
+    pub state: State,
 }
 
 pub enum Power {
@@ -106,13 +106,6 @@ pub struct Asks {
     pub cover: bool,
     pub bad: bool,
     pub part: Part,
-}
-
-// What is done: the state afterwards, the reply, and what is stored.
-pub struct Plan {
-    pub state: State,
-    pub reply: Reply,
-    pub change: Change,
 }
 
 // An answer's number in the table (RULES 5).

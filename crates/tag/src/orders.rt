@@ -1,9 +1,13 @@
-// What an order asks of the session, and the state that it leaves (RULES 3.12 to 3.17).
+// Whether a session lets an order pass, and the states that orders leave (RULES 3.12 to 3.17).
 ghost use mathlib.Core.Path.{_≡_};
-ghost use mathlib.Core.Bool.{not, _||_};
+ghost use mathlib.Core.Bool.{false, not, _||_};
+ghost use Prim.Native.Nat.{_≤_};
 ghost use lib.Dec.{eqb};
+ghost use lib.ListN.{length};
+ghost use Rattle.image.specs.Layout.{layoutOf};
 ghost use Rattle.tag.specs.declared.Half.the-variants as half;
-ghost use Rattle.tag.specs.Commands.{asks, asksOf, noLink, linkOf, isSecured, isKilled, hears as hearsOf, isCovered, uncovered as uncoveredOf, wrongCommand, killWord, accessWord, breaks as breaksOf, killCode, coveredBy, withLink, used as usedOf, halved as halvedOf, numbered as numberedOf, accessed as accessedOf, killed, stateAfter, killReply};
+ghost use Rattle.tag.specs.Commands.{asks, noLink, linkOf, isSecured, isKilled, hears as hearsOf, isCovered, uncovered as uncoveredOf, killWord, accessWord, breaks as breaksOf, killCode, coveredBy, withLink, used as usedOf, halved as halvedOf, numbered as numberedOf, accessed as accessedOf, killed};
+ghost use Rattle.tag.specs.Steps.{waiting, wrongBy, gateBy, gateOf};
 use crate::Asks;
 use crate::Cover;
 use crate::Half;
@@ -12,11 +16,9 @@ use crate::Part;
 use crate::State;
 use bits::both;
 use bits::either;
-use frames::Command;
 use frames::Order;
 use frames::Span;
 use image::Layout;
-use replies::Reply;
 use rights::Code;
 
 fn asking(early: bool, secured: bool, cover: bool, bad: bool, part: Part) -> Asks
@@ -36,24 +38,6 @@ fn is_bad(rfu: u16, s: Span) -> bool
     ensures { λ r. ⌜ r ≡ (not (eqb rfu 0) || eqb (s .count) 0) ⌝ }
 {
     either(rfu != 0, s.count == 0)
-}
-
-// What an order asks.
-pub fn asks_of(order: Order) -> Asks
-    ensures { λ r. ⌜ r ≡ asksOf order ⌝ }
-{
-    match order {
-        Order::ReqRn => asking(true, false, false, false, Part::Number),
-        Order::Read(_) => asking(false, false, false, false, Part::Other),
-        Order::Write(_, _) => asking(false, false, true, false, Part::Other),
-        Order::Kill(h) => asking(false, false, true, false, Part::Kill(h)),
-        Order::Lock(_, _) => asking(false, true, false, false, Part::Other),
-        Order::Access(h) => asking(false, false, true, false, Part::Access(h)),
-        Order::BlockWrite(s, _) => asking(false, false, false, s.count == 0, Part::Other),
-        Order::BlockErase(s) => asking(false, false, false, s.count == 0, Part::Other),
-        Order::ReadPermalock(r, s) => asking(false, true, false, is_bad(r, s), Part::Other),
-        Order::Permalock(r, s, _) => asking(false, true, false, is_bad(r, s), Part::Other),
-    }
 }
 
 fn no_link() -> Link
@@ -104,7 +88,7 @@ pub fn is_killed(state: State) -> bool
 }
 
 // A command with this number is for a tag in this state.
-pub fn hears(state: State, a: Asks, n: u16) -> bool
+fn hears(state: State, a: Asks, n: u16) -> bool
     ensures { λ r. ⌜ r ≡ hearsOf state a n ⌝ }
 {
     match state {
@@ -136,15 +120,13 @@ pub fn uncovered(cover: Cover, w: u16) -> u16
 }
 
 // Answer 9: wrong number, state, missing cover, zero range or RFU.
-pub fn is_wrong(state: State, c: Command) -> bool
-    ensures { λ r. ⌜ r ≡ wrongCommand state c ⌝ }
+fn is_wrong(state: State, n: u16, a: Asks) -> bool
+    ensures { λ r. ⌜ r ≡ wrongBy state n a ⌝ }
 {
-    let order = c.order;
-    let a = asks_of(order);
     let k = link_of(state);
     let cover = k.cover;
     let bare = both(a.cover, !is_covered(cover));
-    either(either(!hears(state, a, c.number), bare), a.bad)
+    either(either(!hears(state, a, n), bare), a.bad)
 }
 
 // A half of the kill password.
@@ -194,14 +176,111 @@ fn breaks_kill(image: &[u8], y: Layout, k: Link, up: u16, part: Part) -> bool
 }
 
 // Answer 12: the lower half makes a wrong password, or another command comes between the halves.
-pub fn breaks(image: &[u8], y: Layout, k: Link, part: Part) -> bool
-    ensures { λ r. ⌜ r ≡ breaksOf y (now (image .entry)) k (k .half) part ⌝ }
+fn breaks(image: &[u8], k: Link, part: Part) -> bool
+    requires { ⌜ 32 ≤ length (now image) ⌝ }
+    ensures { λ r. ⌜ r ≡ breaksOf (layoutOf (now (image .entry))) (now (image .entry)) k (k .half) part ⌝ }
 {
     let half = k.half;
+    let y = image::read_layout(image);
     match half {
         Half::Nothing => false,
         Half::Access(up) => breaks_access(image, y, k, up, part),
         Half::Kill(up) => breaks_kill(image, y, k, up, part),
+    }
+}
+
+// A half waits.
+fn waits(k: Link) -> bool
+    ensures { λ r. ⌜ r ≡ waiting (k .half) ⌝ }
+{
+    let half = k.half;
+    match half {
+        Half::Nothing => false,
+        Half::Access(_) => true,
+        Half::Kill(_) => true,
+    }
+}
+
+// Answer 9 or 12, or 0, for Req_RN, which breaks nothing.
+fn number_gate(state: State, n: u16, a: Asks) -> u8
+    ensures { λ r. ⌜ r ≡ gateBy (wrongBy state n a) false ⌝ }
+{
+    if is_wrong(state, n, a) {
+        return 9;
+    }
+    0
+}
+
+// For an order that has no part in a password.
+fn plain_gate(state: State, n: u16, a: Asks) -> u8
+    ensures { λ r. ⌜ r ≡ gateBy (wrongBy state n a) (waiting (linkOf state .half)) ⌝ }
+{
+    if is_wrong(state, n, a) {
+        return 9;
+    }
+    if waits(link_of(state)) {
+        return 12;
+    }
+    0
+}
+
+// For a half.
+fn password_gate(state: State, n: u16, image: &[u8], a: Asks) -> u8
+    requires { ⌜ 32 ≤ length (now image) ⌝ }
+    ensures { λ r. ⌜ r ≡ gateBy (wrongBy state n a) (breaksOf (layoutOf (now (image .entry))) (now (image .entry)) (linkOf state) (linkOf state .half) (a .part)) ⌝ }
+{
+    if is_wrong(state, n, a) {
+        return 9;
+    }
+    let part = a.part;
+    if breaks(image, link_of(state), part) {
+        return 12;
+    }
+    0
+}
+
+// Answer 9 or 12, or 0, for any order.
+pub fn gate(state: State, n: u16, image: &[u8], order: Order) -> u8
+    requires { ⌜ 32 ≤ length (now image) ⌝ }
+    ensures { λ r. ⌜ r ≡ gateOf (layoutOf (now (image .entry))) (now (image .entry)) state n order ⌝ }
+{
+    match order {
+        Order::ReqRn => number_gate(state, n, asking(true, false, false, false, Part::Number)),
+        Order::Read(_) => plain_gate(state, n, asking(false, false, false, false, Part::Other)),
+        Order::Write(_, _) => plain_gate(state, n, asking(false, false, true, false, Part::Other)),
+        Order::Kill(h) => password_gate(
+            state,
+            n,
+            image,
+            asking(false, false, true, false, Part::Kill(h)),
+        ),
+        Order::Lock(_, _) => plain_gate(state, n, asking(false, true, false, false, Part::Other)),
+        Order::Access(h) => password_gate(
+            state,
+            n,
+            image,
+            asking(false, false, true, false, Part::Access(h)),
+        ),
+        Order::BlockWrite(s, _) => plain_gate(
+            state,
+            n,
+            asking(false, false, false, s.count == 0, Part::Other),
+        ),
+        Order::BlockErase(s) => plain_gate(
+            state,
+            n,
+            asking(false, false, false, s.count == 0, Part::Other),
+        ),
+        Order::ReadPermalock(r, s) => plain_gate(
+            state,
+            n,
+            asking(false, true, false, is_bad(r, s), Part::Other),
+        ),
+        Order::Permalock(r, s, _) => plain_gate(
+            state,
+            n,
+            asking(false, true, false, is_bad(r, s), Part::Other),
+        ),
     }
 }
 
@@ -321,34 +400,5 @@ pub fn killed_by(state: State, h: u16) -> State
         Half::Nothing => with_link(state, halved(k, Half::Kill(uncovered(cover, h)))),
         Half::Access(_) => state,
         Half::Kill(_) => State::Killed,
-    }
-}
-
-// Answer 0: the state afterwards.
-pub fn state_after(image: &[u8], y: Layout, fresh: u16, state: State, order: Order) -> State
-    ensures { λ r. ⌜ r ≡ stateAfter y (now (image .entry)) fresh state order ⌝ }
-{
-    match order {
-        Order::ReqRn => numbered(image, y, fresh, state),
-        Order::Read(_) => used(state),
-        Order::Write(_, _) => used(state),
-        Order::Kill(h) => killed_by(state, h),
-        Order::Lock(_, _) => used(state),
-        Order::Access(h) => accessed(state, h),
-        Order::BlockWrite(_, _) => used(state),
-        Order::BlockErase(_) => used(state),
-        Order::ReadPermalock(_, _) => used(state),
-        Order::Permalock(_, _, _) => used(state),
-    }
-}
-
-// The first Kill answers with the handle alone, the second like a command that stores.
-pub fn kill_reply(handle: u16, half: Half) -> Reply
-    ensures { λ r. ⌜ r ≡ killReply handle half ⌝ }
-{
-    match half {
-        Half::Nothing => Reply::Number(handle),
-        Half::Access(_) => Reply::Silence,
-        Half::Kill(_) => Reply::Success(handle),
     }
 }

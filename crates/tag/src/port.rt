@@ -2,12 +2,18 @@
 ghost use mathlib.Core.Path.{_≡_};
 ghost use mathlib.Core.Bool.{false, true};
 ghost use mathlib.Core.List.{[]};
-ghost use Prim.Native.Nat.{_≤_, _<_};
-ghost use lib.ListN.{length};
+ghost use Prim.Native.Nat.{ℕ, _*_, _≤_, _<_};
+ghost use lib.ListN.{length, getD};
+ghost use Rattle.image.specs.Layout.{layoutOf};
+ghost use Rattle.image.specs.Check.{rowOf, checkOf};
+ghost use Rattle.image.specs.Steps.{readyRow};
 ghost use Rattle.image.specs.Rules.{Good};
+ghost use Rattle.replies.specs.Pack.{packed};
+ghost use Rattle.tag.specs.Session.{numberOf};
+ghost use Rattle.tag.specs.Table.{liveOf};
 ghost use Rattle.tag.specs.Commands.{isKilled};
-ghost use Rattle.tag.specs.Port.{isLinked, heldTo, registerTo, bitOf, numberIn, withKilled, withUnwritten, badCount, badData, askOf, releaseOf, registerOf, readOf, writeOf};
-ghost use Rattle.tag.specs.PortSteps.{doneWith, gated, readEnd, writeEnd, portOpen, Masked};
+ghost use Rattle.tag.specs.Port.{isLinked, heldTo, registerTo, bitOf, numberIn, withKilled, withUnwritten, badCount, badData, readBits, askOf, releaseOf, registerOf, readOf, writeOf};
+ghost use Rattle.tag.specs.PortSteps.{gated, heldRow, afterKilled, endRow, readRow, writeEnd, portOpen, Masked};
 ghost use Rattle.tag.specs.Result.{result};
 use crate::Answer;
 use crate::Live;
@@ -20,7 +26,6 @@ use crate::answering;
 use crate::orders;
 use crate::radio;
 use crate::starting;
-use image::Fit;
 use image::Layout;
 
 fn is_linked(state: State) -> bool
@@ -105,18 +110,6 @@ fn number_in(register: Register) -> u8
     2 * bit(register.unwritten) + bit(register.killed)
 }
 
-fn done(session: Session, reply: usize, stores: usize, value: u8) -> Outcome
-    ensures { λ r. ⌜ r ≡ doneWith session reply stores value ⌝ }
-{
-    Outcome {
-        answer: Answer::Done,
-        session: session,
-        reply: reply,
-        stores: stores,
-        value: value,
-    }
-}
-
 // No word, more than 255, or words past USER's end.
 fn bad_count(y: Layout, at: usize, count: usize) -> bool
     ensures { λ r. ⌜ r ≡ badCount y at count ⌝ }
@@ -148,41 +141,105 @@ fn bad_data(y: Layout, at: usize, words: &[u8]) -> bool
     image::pairs(y) < n / 2
 }
 
-// Words of USER into the room, or zeros when Killed.
-fn show(l: Live, y: Layout, image: &[u8], at: usize, count: usize, room: &mut [u8]) -> Outcome
-    requires { ⌜ Good y (now image) ⌝ }
-    requires { ⌜ badCount y at count ≡ false ⌝ }
-    ensures { λ r. ⌜ result r (now (image .entry)) (now (room .exit)) ≡ readEnd l y (now (image .entry)) at count (now (room .entry)) ⌝ }
+// Answer 5 where the session is Off, 6 where the port isn't held, or 0.
+fn held_row(session: Session) -> u8
+    ensures { λ r. ⌜ r ≡ heldRow (session .power) ⌝ }
 {
-    if room.len() < 2 * count {
-        return answering::refused(l, Answer::NoRoom);
+    let power = session.power;
+    match power {
+        Power::Off => 5,
+        Power::On(l) => {
+            if l.held {
+                return 0;
+            }
+            6
+        }
     }
-    let state = l.state;
-    let killed = orders::is_killed(state);
-    if killed {
-        replies::put_zeros(room, count);
-        return done(with_killed(l), 16 * count, 0, 0);
-    }
-    replies::put_plain(room, image, y.user.at as usize + at, count);
-    let register = l.register;
-    done(with_register(l, register), 16 * count, 0, 0)
 }
 
-// A read of a session under power on a good image.
-fn reading(l: Live, y: Layout, image: &[u8], at: usize, count: usize, room: &mut [u8]) -> Outcome
-    requires { ⌜ Good y (now image) ⌝ }
-    ensures { λ r. ⌜ result r (now (image .entry)) (now (room .exit)) ≡ gated l y (now (image .entry)) (now (room .entry)) (badCount y at count) (readEnd l y (now (image .entry)) at count (now (room .entry))) ⌝ }
+// Killed, under power.
+fn is_dead(session: Session) -> bool
+    ensures { λ r. ⌜ r ≡ isKilled (liveOf (session .power) .state) ⌝ }
 {
-    if bits::word(image, y.work.at as usize) != 0 {
-        return answering::refused(l, Answer::NotReady);
+    let power = session.power;
+    match power {
+        Power::Off => false,
+        Power::On(l) => {
+            let reached = l.state;
+            orders::is_killed(reached)
+        }
     }
-    if !l.held {
-        return answering::refused(l, Answer::Port);
+}
+
+// With bit 0 set, under power.
+fn after_killed(session: Session) -> Session
+    ensures { λ r. ⌜ r ≡ afterKilled (session .power) ⌝ }
+{
+    let power = session.power;
+    let Power::On(l) = power else {
+        return session;
+    };
+    with_killed(l)
+}
+
+// The answer of a read that 6 does not stop, as a number.
+fn read_end(image: &[u8], at: usize, count: usize, room: usize) -> u8
+    requires { ⌜ 32 ≤ length (now image) ⌝ }
+    ensures { λ r. ⌜ r ≡ endRow (layoutOf (now (image .entry))) at count room ⌝ }
+{
+    if bad_count(image::read_layout(image), at, count) {
+        return 13;
     }
-    if bad_count(y, at, count) {
-        return answering::refused(l, Answer::Count);
+    if room < 2 * count {
+        return 4;
     }
-    show(l, y, image, at, count, room)
+    0
+}
+
+// The answer of a read as a number, from the session's and the check's.
+pub fn read_row(h: u8, v: u8, image: &[u8], at: usize, count: usize, room: usize) -> u8
+    requires { ⌜ v ≡ readyRow (now image) ⌝ }
+    ensures { λ r. ⌜ r ≡ readRow h (rowOf (checkOf (now (image .entry)))) (now (image .entry)) at count room ⌝ }
+{
+    if v != 0 {
+        return v;
+    }
+    if h != 0 {
+        return h;
+    }
+    read_end(image, at, count, room)
+}
+
+// The answers that a read may have.
+fn answer_of(n: u8) -> Answer
+    requires { ⌜ (6 < n → n ≡ 13) ⌝ }
+    ensures { λ r. ⌜ numberOf r ≡ n ⌝ }
+{
+    match n {
+        0 => Answer::Done,
+        1 => Answer::Short,
+        2 => Answer::Header,
+        3 => Answer::Content,
+        4 => Answer::NoRoom,
+        5 => Answer::NotReady,
+        6 => Answer::Port,
+        _ => Answer::Count,
+    }
+}
+
+// Words of USER into the room, or zeros when Killed.
+pub fn show(dead: bool, image: &[u8], at: usize, count: usize, room: &mut [u8])
+    requires { ⌜ Good (layoutOf (now image)) (now image) ⌝ }
+    requires { ⌜ badCount (layoutOf (now image)) at count ≡ false ⌝ }
+    requires { ⌜ 2 * count ≤ length (now room) ⌝ }
+    ensures { λ _. ⌜ now (room .exit) ≡ packed (readBits (layoutOf (now (image .entry))) (now (image .entry)) dead at count) (now (room .entry)) ⌝ }
+{
+    if dead {
+        replies::put_zeros(room, count);
+        return;
+    }
+    let user = image::read_layout(image).user.at as usize;
+    replies::put_plain(room, image, user + at, count);
 }
 
 // No access password and no USER pwd bit: the port may write words of open blocks.
@@ -199,11 +256,15 @@ fn is_open(image: &[u8], y: Layout) -> bool
     rights::pwd_bit(bits::word(image, y.status.at as usize), 4) == 0
 }
 
-// A byte for each of n USER words from word `at` on: 1 where its block is permalocked. Answers how many are 0.
+// In a mask of zeros, a byte for each of n USER words from word `at` on: 1 where its block is permalocked. Answers how many are 0.
 fn mark(mask: &mut [u8], image: &[u8], y: Layout, at: usize, n: usize) -> usize
     requires { ⌜ (n ≤ length (now mask)) × (n < 256) × (at < 65536) ⌝ }
+    requires { ⌜ ((j : ℕ) → j < n → getD (now mask) j 0 ≡ 0) ⌝ }
     ensures { λ r. ⌜ Masked y (now (image .entry)) at (now (mask .exit)) n r × (r ≤ n) ⌝ }
 {
+    if rights::none_locked(image, y, at, n) {
+        return n;
+    }
     let mut writable: usize = 0;
     let mut j: usize = 0;
     while j < n {
@@ -232,7 +293,7 @@ fn store_open(l: Live, y: Layout, image: &mut [u8], at: usize, words: &[u8], s: 
     if s < need {
         return starting::stopped(Answer::PowerLost, made);
     }
-    done(with_unwritten(l, writable != n), 0, made, 0)
+    answering::done(with_unwritten(l, writable != n), 0, made, 0)
 }
 
 // What a write stores: nothing when Killed or where the port may write no word.
@@ -243,10 +304,10 @@ fn store(l: Live, y: Layout, image: &mut [u8], at: usize, words: &[u8], s: usize
 {
     let state = l.state;
     if orders::is_killed(state) {
-        return done(with_killed(l), 0, 0, 0);
+        return answering::done(with_killed(l), 0, 0, 0);
     }
     if !is_open(image, y) {
-        return done(with_unwritten(l, true), 0, 0, 0);
+        return answering::done(with_unwritten(l, true), 0, 0, 0);
     }
     store_open(l, y, image, at, words, s)
 }
@@ -284,7 +345,7 @@ impl Session {
         if is_linked(state) {
             return radio::unmoved(self, Answer::Port);
         }
-        done(with_held(l, true), 0, 0, 0)
+        answering::done(with_held(l, true), 0, 0, 0)
     }
 
     // Gives the port back.
@@ -298,7 +359,7 @@ impl Session {
         if !l.held {
             return radio::unmoved(self, Answer::Port);
         }
-        done(with_held(l, false), 0, 0, 0)
+        answering::done(with_held(l, false), 0, 0, 0)
     }
 
     // Reads the register, which clears it.
@@ -317,41 +378,46 @@ impl Session {
             unwritten: false,
             killed: false,
         };
-        done(with_register(l, clear), 0, 0, number_in(register))
+        answering::done(with_register(l, clear), 0, 0, number_in(register))
     }
 
     // Reads count words of USER from word `at` on into the room.
     pub fn read(self, image: &[u8], at: usize, count: usize, room: &mut [u8]) -> Outcome
         ensures { λ r. ⌜ result r (now (image .entry)) (now (room .exit)) ≡ readOf self (now (image .entry)) at count (now (room .entry)) ⌝ }
     {
-        match image::check(image) {
-            Fit::Short => radio::unmoved(self, Answer::Short),
-            Fit::Header => radio::unmoved(self, Answer::Header),
-            Fit::Content => radio::unmoved(self, Answer::Content),
-            Fit::Good(y) => {
-                let power = self.power;
-                let Power::On(l) = power else {
-                    return radio::unmoved(self, Answer::NotReady);
-                };
-                reading(l, y, image, at, count, room)
-            }
+        let row = read_row(
+            held_row(self),
+            image::ready(image),
+            image,
+            at,
+            count,
+            room.len(),
+        );
+        if row != 0 {
+            return radio::unmoved(self, answer_of(row));
         }
+        let dead = is_dead(self);
+        show(dead, image, at, count, room);
+        if dead {
+            return answering::done(after_killed(self), 16 * count, 0, 0);
+        }
+        answering::done(self, 16 * count, 0, 0)
     }
 
     // Writes words to USER from word `at` on, with power for s stores.
     pub fn write(self, image: &mut [u8], at: usize, words: &[u8], s: usize) -> Outcome
         ensures { λ r. ⌜ result r (now (image .exit)) [] ≡ writeOf self (now (image .entry)) at (now (words .entry)) s ⌝ }
     {
-        match image::check(image) {
-            Fit::Short => radio::unmoved(self, Answer::Short),
-            Fit::Header => radio::unmoved(self, Answer::Header),
-            Fit::Content => radio::unmoved(self, Answer::Content),
-            Fit::Good(y) => {
+        match image::verdict(image) {
+            1 => radio::unmoved(self, Answer::Short),
+            2 => radio::unmoved(self, Answer::Header),
+            3 => radio::unmoved(self, Answer::Content),
+            _ => {
                 let power = self.power;
                 let Power::On(l) = power else {
                     return radio::unmoved(self, Answer::NotReady);
                 };
-                writing(l, y, image, at, words, s)
+                writing(l, image::read_layout(image), image, at, words, s)
             }
         }
     }

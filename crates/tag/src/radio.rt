@@ -1,6 +1,7 @@
 // The radio side: admission and frames (RULES 3 and 5).
 ghost use mathlib.Core.Path.{_≡_};
 ghost use mathlib.Core.List.{[]};
+ghost use Rattle.image.specs.Layout.{layoutOf};
 ghost use Rattle.image.specs.Rules.{Good};
 ghost use Rattle.tag.specs.Table.{isArbitrate, input, frameOf, admitOf};
 ghost use Rattle.tag.specs.Result.{result};
@@ -12,11 +13,10 @@ use crate::Outcome;
 use crate::Power;
 use crate::Session;
 use crate::State;
+use crate::acting;
 use crate::answering;
 use crate::orders;
 use frames::Heard;
-use image::Fit;
-use image::Layout;
 
 // Everything stays.
 pub fn unmoved(session: Session, answer: Answer) -> Outcome
@@ -47,19 +47,12 @@ fn is_arbitrate(state: State) -> bool
 fn silent(l: Live, state: State) -> Outcome
     ensures { λ r. ⌜ r ≡ movedWith l state ⌝ }
 {
-    Outcome {
-        answer: Answer::Done,
-        session: answering::moved(l, state),
-        reply: 0,
-        stores: 0,
-        value: 0,
-    }
+    answering::done(answering::moved(l, state), 0, 0, 0)
 }
 
 // What a frame says to a session under power.
 fn hearing(
     l: Live,
-    y: Layout,
     image: &mut [u8],
     frame: &[u8],
     n: usize,
@@ -67,8 +60,8 @@ fn hearing(
     room: &mut [u8],
     s: usize,
 ) -> Outcome
-    requires { ⌜ Good y (now image) ⌝ }
-    ensures { λ r. ⌜ result r (now (image .exit)) (now (room .exit)) ≡ heardBy l y (now (image .entry)) (now (frame .entry)) n fresh (now (room .entry)) s (heardOf (now (frame .entry)) n) ⌝ }
+    requires { ⌜ Good (layoutOf (now image)) (now image) ⌝ }
+    ensures { λ r. ⌜ result r (now (image .exit)) (now (room .exit)) ≡ heardBy l (layoutOf (now (image .entry))) (now (image .entry)) (now (frame .entry)) n fresh (now (room .entry)) s (heardOf (now (frame .entry)) n) ⌝ }
 {
     match frames::hear(frame, n) {
         Heard::Malformed => answering::refused(l, Answer::Malformed),
@@ -83,7 +76,7 @@ fn hearing(
             if !frames::checksum_right(frame, n) {
                 return answering::refused(l, Answer::Checksum);
             }
-            answering::command(l, y, c, image, frame, fresh, room, s)
+            acting::command(l, c, image, frame, fresh, room, s)
         }
     }
 }
@@ -91,7 +84,6 @@ fn hearing(
 // A session under power on a good image.
 fn listening(
     l: Live,
-    y: Layout,
     image: &mut [u8],
     frame: &[u8],
     n: usize,
@@ -99,16 +91,16 @@ fn listening(
     room: &mut [u8],
     s: usize,
 ) -> Outcome
-    requires { ⌜ Good y (now image) ⌝ }
-    ensures { λ r. ⌜ result r (now (image .exit)) (now (room .exit)) ≡ liveBy l y (now (image .entry)) (now (frame .entry)) n fresh (now (room .entry)) s ⌝ }
+    requires { ⌜ Good (layoutOf (now image)) (now image) ⌝ }
+    ensures { λ r. ⌜ result r (now (image .exit)) (now (room .exit)) ≡ liveBy l (layoutOf (now (image .entry))) (now (image .entry)) (now (frame .entry)) n fresh (now (room .entry)) s ⌝ }
 {
-    if bits::word(image, y.work.at as usize) != 0 {
+    if image::pending(image) {
         return answering::refused(l, Answer::NotReady);
     }
     if l.held {
         return answering::refused(l, Answer::Port);
     }
-    hearing(l, y, image, frame, n, fresh, room, s)
+    hearing(l, image, frame, n, fresh, room, s)
 }
 
 impl Session {
@@ -142,16 +134,16 @@ impl Session {
     ) -> Outcome
         ensures { λ r. ⌜ result r (now (image .exit)) (now (room .exit)) ≡ frameOf (input self (now (image .entry)) (now (frame .entry)) n fresh (now (room .entry)) s) ⌝ }
     {
-        match image::check(image) {
-            Fit::Short => unmoved(self, Answer::Short),
-            Fit::Header => unmoved(self, Answer::Header),
-            Fit::Content => unmoved(self, Answer::Content),
-            Fit::Good(y) => {
+        match image::ready(image) {
+            1 => unmoved(self, Answer::Short),
+            2 => unmoved(self, Answer::Header),
+            3 => unmoved(self, Answer::Content),
+            _ => {
                 let power = self.power;
                 let Power::On(l) = power else {
                     return unmoved(self, Answer::NotReady);
                 };
-                listening(l, y, image, frame, n, fresh, room, s)
+                listening(l, image, frame, n, fresh, room, s)
             }
         }
     }

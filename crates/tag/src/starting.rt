@@ -15,7 +15,6 @@ use crate::Power;
 use crate::Register;
 use crate::Session;
 use crate::State;
-use image::Fit;
 use image::Layout;
 
 pub fn off() -> Session
@@ -97,10 +96,10 @@ fn start(image: &mut [u8], y: Layout, s: usize) -> Outcome
 pub fn power_up(image: &mut [u8], s: usize) -> Outcome
     ensures { λ r. ⌜ result r (now (image .exit)) [] ≡ powerUpOf (now (image .entry)) s ⌝ }
 {
-    match image::check(image) {
-        Fit::Short => stopped(Answer::Short, 0),
-        Fit::Header => stopped(Answer::Header, 0),
-        Fit::Content => stopped(Answer::Content, 0),
-        Fit::Good(y) => start(image, y, s),
+    match image::verdict(image) {
+        1 => stopped(Answer::Short, 0),
+        2 => stopped(Answer::Header, 0),
+        3 => stopped(Answer::Content, 0),
+        _ => start(image, image::read_layout(image), s),
     }
 }

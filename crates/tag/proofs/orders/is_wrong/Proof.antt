@@ -7,5 +7,5 @@ pub is-wrong-spec : {M : Type 1} → statement M
 is-wrong-spec =
     tie.close
     (tie.spec (λ c κs. search needs) (λ c κs. search needs) (λ c κs. search needs) (λ c κs. search needs)
-    (λ c κs. search needs) (λ c κs. search needs) (λ c κs. search needs)
-    (λ c. rw (c .either2 .ensures, c .before .either .ensures, c .before .before .hears .ensures, c .before .before .before .both .ensures, c .before .before .before .before .is-covered .ensures, c .before .before .before .before .before .link-of .ensures, c .before .before .before .before .before .before .asks-of .ensures)))
+    (λ c κs. search needs) (λ c κs. search needs)
+    (λ c. rw (c .either2 .ensures, c .before .either .ensures, c .before .before .hears .ensures, c .before .before .before .both .ensures, c .before .before .before .before .is-covered .ensures, c .before .before .before .before .before .link-of .ensures)))

@@ -3,9 +3,7 @@ use borrow.Author.Needs.{needs}
 use Rattle.tag.proofs.radio.silent.Statement.{statement}
 use Rattle.tag.proofs.radio.silent.Tie as tie
 
-returns : tie.Need-returns
-returns c = rw (c .moved .ensures)
-
 pub silent-spec : {M : Type 1} → statement M
-silent-spec = tie.close
-    (tie.spec (λ c κs. search needs) returns)
+silent-spec =
+    tie.close
+    (tie.spec (λ c κs. search needs) (λ c κs. search needs) (λ c. rw (c .done .ensures, c .before .moved .ensures)))

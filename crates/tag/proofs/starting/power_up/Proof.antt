@@ -1,46 +1,55 @@
 -- `tag::starting::power_up` meets its contract: by the check's answer. Assumes nothing.
 use Rattle.tag.specs.Power.{powerUpOf}
-use Rattle.image.proofs.Answers.{check-good, check-0, check-1, check-2, check-3}
-use mathlib.Core.Path.{sym}
+use Rattle.image.proofs.Answers.{row-good, row-0, row-long, row-1, row-2, row-3, check-0}
+use mathlib.Core.Path.{sym, _∙_}
+use Rattle.tag.proofs.Tables.{row-left}
 use denote.Ref.{now}
 use borrow.Author.Needs.{needs}
 use Rattle.tag.proofs.starting.power_up.Statement.{statement}
 use Rattle.tag.proofs.starting.power_up.Tie as tie
 
+read-layout-requires : tie.Need-read-layout-requires
+read-layout-requires c κs = row-long (now (c .before .before .before .before .before .before .args .image)) (λ e. c .before .before .match .rest .0 .0 .1 (c .before .before .before .verdict .ensures ∙ e))
+
 start-requires : tie.Need-start-requires
-start-requires c κs = let a = c .before .before .before .before .before .before .before .args in
-    check-good (now (a .image)) _ (sym (rw (c .before .before .y .given .1) at (c .before .before .before .before .check .ensures)))
+start-requires c κs =
+    let a = c .before .before .before .before .before .before .before .args in let m = now (a .image) in
+    let r = c .before .before .before .match .rest in
+    let z = row-left m (c .before .before .before .before .verdict .ensures) (r .0 .0 .1) (r .0 .1) (r .1) in
+    rw (c .read-layout .ensures) (row-0 m z)
 
 returns : tie.Need-returns
 unfolding powerUpOf
-returns c = let a = c .before .before .before .before .before .before .args in
-    let e = rw (c .before .enum-told .given .1) at (c .before .before .before .check .ensures) in
-    rw (c .stopped .ensures) (simp (check-1 (now (a .image)) e))
+returns c =
+    let a = c .before .before .before .before .before .args in let m = now (a .image) in
+    rw (c .stopped .ensures) (simp (row-1 m (sym (c .before .before .verdict .ensures) ∙ c .before .match .keys1)))
 
 returns-2 : tie.Need-returns-2
 unfolding powerUpOf
-returns-2 c = let a = c .before .before .before .before .before .before .args in
-    let h = check-2 (now (a .image)) (rw (c .before .enum-told2 .given .1) at (c .before .before .before .check .ensures)) in
+returns-2 c =
+    let a = c .before .before .before .before .before .args in let m = now (a .image) in
+    let h = row-2 m (sym (c .before .before .verdict .ensures) ∙ c .before .match .keys2) in
     rw (c .stopped2 .ensures) (simp (h .0, h .1))
 
 returns-3 : tie.Need-returns-3
 unfolding powerUpOf
-returns-3 c = let a = c .before .before .before .before .before .before .args in
-    let h = check-3 (now (a .image)) (rw (c .before .enum-told3 .given .1) at (c .before .before .before .check .ensures)) in
+returns-3 c =
+    let a = c .before .before .before .before .before .args in let m = now (a .image) in
+    let h = row-3 m (sym (c .before .before .verdict .ensures) ∙ c .before .match .keys3) in
     rw (c .stopped3 .ensures) (simp (h .0, h .1, h .2))
 
 returns-4 : tie.Need-returns-4
 unfolding powerUpOf
-returns-4 c = let a = c .before .before .before .before .before .before .before .before .before .before .args in
-    let e = rw (c .before .before .before .before .before .y .given .1) at (c .before .before .before .before .before .before .before .check .ensures) in
-    let h = check-0 (now (a .image)) _ e in
-    let l = check-good (now (a .image)) _ (sym e) .layout in
-    rw (c .before .before .start .ensures) (simp (h .0, h .1, h .2, ← l))
+returns-4 c =
+    let a = c .before .before .before .before .before .before .before .before .before .before .args in let m = now (a .image) in
+    let r = c .before .before .before .before .before .before .match .rest in
+    let z = row-left m (c .before .before .before .before .before .before .before .verdict .ensures) (r .0 .0 .1) (r .0 .1) (r .1) in
+    let h = check-0 m _ (row-good m z) in
+    rw (c .before .before .start .ensures, c .before .before .before .read-layout .ensures) (simp (h .0, h .1, h .2))
 
 pub power-up-spec : {M : Type 1} → statement M
 power-up-spec =
     tie.close
-    (tie.spec (λ c κs. search needs) (λ c. search needs) (λ c κs. search needs) (λ c. search needs)
-    (λ c κs. search needs) (λ c. search needs) (λ c κs. search needs) (λ c. search needs) start-requires
-    (λ c. search needs) returns (λ c. search needs) returns-2 (λ c. search needs) returns-3 (λ c. search needs)
+    (tie.spec (λ c κs. search needs) (λ c κs. search needs) (λ c κs. search needs) (λ c κs. search needs)
+    read-layout-requires start-requires (λ c. search needs) returns (λ c. search needs) returns-2 (λ c. search needs) returns-3 (λ c. search needs)
     returns-4)
