@@ -6,7 +6,7 @@ use mathlib.Core.List.{List}
 use mathlib.Core.Logic.{_⊎_, inl, inr}
 use native.Mathlib.Omega.{arith}
 use borrow.Author.Tests.{ltb-true}
-use lib.Dec.{eqb, ltb}
+use lib.Dec.{ltb}
 use lib.ListN.{length, drop, getD, length-drop}
 use lib.Seq.{length-take-le, getD-take, getD-drop, drop-set-lt}
 use Rattle.bits.specs.Words.{wordAt, withWord}
@@ -18,19 +18,14 @@ use Rattle.image.specs.Check.{Checked, refused, good, short, headerWrong, conte
 use Rattle.image.specs.Rules.{Header}
 use Rattle.image.proofs.Answers.{check-good}
 use Rattle.rights.specs.Rights.{bankOf}
+use Rattle.rights.proofs.Banks.{bank-end}
 use Rattle.bank.specs.declared.Word.the-variants as word
 use Rattle.bank.specs.declared.View.{View}
 use Rattle.bank.specs.Views.{shown, bytesOf, viewIf, viewOf, countIn, wordIn, wordIf, wordOf}
 
 -- every bank of a good image lies in it
 pub bank-ends : (y : Layout) (m : List ℕ) (b : ℕ) → Header y m → 2 * end (bankOf y b) ≤ length m
-bank-ends y m b h = go (eqb b 0) (eqb b 1) (eqb b 2)
-  where
-    go : (p q r : Bool) → 2 * end (cond p (y .reserved) (cond q (y .epc) (cond r (y .tid) (y .user)))) ≤ length m
-    go true q r = omega arith
-    go false true r = omega arith
-    go false false true = omega arith
-    go false false false = omega arith
+bank-ends y m b h = omega (arith, bank-end y m b h)
 
 -- the part of a section has its words, and they are the image's
 part-count : (s : Section) (m : List ℕ) → 2 * end s ≤ length m → length (bytesOf s m) / 2 ≡ s .words

@@ -56,7 +56,7 @@ again (power.On l) = rw (loose-again l (l .state) refl) (simp (same-self (record
 both-true : (a b : Bool) → (a && b) ≡ true → (a ≡ true) × (b ≡ true)
 both-true a b e = (and-left a b e, and-right a b e)
 
-same-is : (a b : Record) → same a b ≡ true → a ≡ b
+pub same-is : (a b : Record) → same a b ≡ true → a ≡ b
 unfolding same
 same-is a b e =
     let s = eqb (a .state) (b .state) in

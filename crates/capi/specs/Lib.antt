@@ -1,4 +1,5 @@
 pub mod Records
 pub mod Told
+pub mod Steps
 pub mod Laws
 pub mod Wrong

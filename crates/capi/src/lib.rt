@@ -61,7 +61,7 @@ pub struct Sheet {
 pub extern "C" fn tag_check(image: &[u8]) -> Sheet
     ensures { λ r. ⌜ r ≡ sheetOf (checkOf (now (image .entry))) ⌝ }
 {
-    sheets::sheet(image::check(image))
+    sheets::sheet(image)
 }
 
 // Power-up, with power for s stores.
@@ -131,7 +131,18 @@ pub extern "C" fn tag_read(
 ) -> Told
     ensures { λ r. ⌜ told r (now (image .entry)) (now (room .exit)) ≡ toldOf (readOf (sessionOf session) (now (image .entry)) at count (now (room .entry))) ⌝ }
 {
-    records::outcome(records::session(session).read(image, at, count, room))
+    let h = records::held_row(session);
+    let v = image::ready(image);
+    let row = tag::read_row(h, v, image, at, count, room.len());
+    if row != 0 {
+        return records::told(row, records::own(session, h), 0);
+    }
+    if session.state == 5 {
+        tag::show(true, image, at, count, room);
+        return records::told(0, records::with_killed(session), 16 * count);
+    }
+    tag::show(false, image, at, count, room);
+    records::told(0, session, 16 * count)
 }
 
 // Writes words to USER from word `at` on, with power for s stores.

@@ -1,15 +1,16 @@
 // A session as a record of numbers, and back (RULES 10.1 to 10.3).
 ghost use mathlib.Core.Path.{_≡_};
-ghost use mathlib.Core.Bool.{not};
-ghost use Prim.Native.Nat.{_<_};
+ghost use mathlib.Core.Bool.{cond};
 ghost use lib.Dec.{eqb};
-ghost use Rattle.tag.specs.Session.{offSession, on};
+ghost use Rattle.tag.specs.Session.{offSession};
 ghost use Rattle.tag.specs.Port.{bitOf};
-ghost use Rattle.capi.specs.Records.{blank, coverOf, halfOf, linkOf, onOf, looseOf, plain as plainOf, coveredIn, coverIn, halfIn, upperIn, linked as linkedOf, recordIn, recordOf, same as sameOf, sessionOf};
+ghost use Rattle.tag.specs.PortSteps.{heldRow};
+ghost use Rattle.capi.specs.Records.{blank, coverOf, halfOf, linkOf, onOf, plain as plainOf, coveredIn, coverIn, halfIn, upperIn, linked as linkedOf, recordIn, recordOf, sessionOf};
+ghost use Rattle.capi.specs.Steps.{linkedState, bareState, stateOf, nearOf, flagsFit, numbersFit, isBare, stateFits, fitsOf, killedRecord, toldWith};
 ghost use Rattle.capi.specs.Told.{outcomeOf};
 use crate::Record;
 use crate::Told;
-use bits::both;
+use bits::either;
 use tag::Cover;
 use tag::Half;
 use tag::Link;
@@ -72,19 +73,44 @@ fn live(r: Record, state: State) -> Session
     }
 }
 
-// The session that a record comes nearest to.
-fn loose(r: Record) -> Session
-    ensures { λ s. ⌜ s ≡ looseOf r ⌝ }
+// A state that has a link.
+fn linked_state(state: u8, k: Link) -> State
+    ensures { λ s. ⌜ s ≡ linkedState state k ⌝ }
 {
-    let state = r.state;
-    match state {
-        1 => live(r, State::Arbitrate),
-        2 => live(r, State::Acknowledged(r.number)),
-        3 => live(r, State::Open(link(r))),
-        4 => live(r, State::Secured(link(r))),
-        5 => live(r, State::Killed),
-        _ => off(),
+    if state == 3 {
+        return State::Open(k);
     }
+    State::Secured(k)
+}
+
+// A state that has none.
+fn bare_state(state: u8, number: u16) -> State
+    ensures { λ s. ⌜ s ≡ bareState state number ⌝ }
+{
+    if state == 2 {
+        return State::Acknowledged(number);
+    }
+    if state == 1 {
+        return State::Arbitrate;
+    }
+    State::Killed
+}
+
+// The state of a record that has one.
+fn state_of(r: Record, k: Link) -> State
+    ensures { λ s. ⌜ s ≡ stateOf r k ⌝ }
+{
+    if either(r.state == 3, r.state == 4) {
+        return linked_state(r.state, k);
+    }
+    bare_state(r.state, r.number)
+}
+
+// The session under power that a record comes nearest to.
+fn near(r: Record) -> Session
+    ensures { λ s. ⌜ s ≡ nearOf r ⌝ }
+{
+    live(r, state_of(r, link(r)))
 }
 
 fn bit(b: bool) -> u8
@@ -209,26 +235,68 @@ fn record_of(s: Session) -> Record
     under_power(l)
 }
 
-fn same(a: Record, b: Record) -> bool
-    ensures { λ r. ⌜ r ≡ sameOf a b ⌝ }
+// What is 0 or 1 is.
+fn flags_fit(r: Record) -> bool
+    ensures { λ b. ⌜ b ≡ flagsFit r ⌝ }
 {
-    let state = both(a.state == b.state, a.held == b.held);
-    let register = both(a.unwritten == b.unwritten, a.killed == b.killed);
-    let cover = both(a.covered == b.covered, a.cover == b.cover);
-    let half = both(a.half == b.half, a.upper == b.upper);
-    both(
-        both(both(state, register), both(cover, half)),
-        a.number == b.number,
-    )
+    (r.held | r.unwritten | r.killed | r.covered) <= 1
 }
 
-// The session of a record: Off where the record is not that session's own.
+// A cover number and an upper half are 0 where there is none, and the half is one of three.
+fn numbers_fit(r: Record) -> bool
+    ensures { λ b. ⌜ b ≡ numbersFit r ⌝ }
+{
+    if r.covered == 0 {
+        if r.cover != 0 {
+            return false;
+        }
+    }
+    if r.half == 0 {
+        return r.upper == 0;
+    }
+    r.half <= 2
+}
+
+// No cover and no half.
+fn is_bare(r: Record) -> bool
+    ensures { λ b. ⌜ b ≡ isBare r ⌝ }
+{
+    ((r.covered | r.half) as u16 | r.cover | r.upper) == 0
+}
+
+// A state holds only what belongs to it.
+fn state_fits(r: Record) -> bool
+    ensures { λ b. ⌜ b ≡ stateFits r ⌝ }
+{
+    let state = r.state;
+    if either(state == 3, state == 4) {
+        return numbers_fit(r);
+    }
+    if !is_bare(r) {
+        return false;
+    }
+    either(state == 2, r.number == 0)
+}
+
+// The record is that of a session under power.
+fn fits(r: Record) -> bool
+    ensures { λ b. ⌜ b ≡ fitsOf r ⌝ }
+{
+    if either(r.state == 0, 5 < r.state) {
+        return false;
+    }
+    if !flags_fit(r) {
+        return false;
+    }
+    state_fits(r)
+}
+
+// The session of a record: Off where the record is no session's under power.
 pub fn session(r: Record) -> Session
     ensures { λ s. ⌜ s ≡ sessionOf r ⌝ }
 {
-    let s = loose(r);
-    if same(record_of(s), r) {
-        return s;
+    if fits(r) {
+        return near(r);
     }
     off()
 }
@@ -245,5 +313,58 @@ pub fn outcome(o: tag::Outcome) -> Told
         session: record_of(session),
         reply: o.reply,
         stores: o.stores,
+    }
+}
+
+// Answer 5 where the record's session is Off, 6 where the port isn't held, or 0.
+pub fn held_row(r: Record) -> u8
+    ensures { λ h. ⌜ h ≡ heldRow (sessionOf r .power) ⌝ }
+{
+    if !fits(r) {
+        return 5;
+    }
+    if r.held == 0 {
+        return 6;
+    }
+    0
+}
+
+// The record of its own session, by that answer.
+pub fn own(r: Record, h: u8) -> Record
+    ensures { λ o. ⌜ o ≡ cond (eqb h 5) blank r ⌝ }
+{
+    if h == 5 {
+        return without_power();
+    }
+    r
+}
+
+// The record with bit 0 of its register set.
+pub fn with_killed(r: Record) -> Record
+    ensures { λ o. ⌜ o ≡ killedRecord r ⌝ }
+{
+    Record {
+        state: r.state,
+        held: r.held,
+        unwritten: r.unwritten,
+        killed: 1,
+        covered: r.covered,
+        half: r.half,
+        number: r.number,
+        cover: r.cover,
+        upper: r.upper,
+    }
+}
+
+// An outcome without stores as numbers.
+pub fn told(answer: u8, session: Record, reply: usize) -> Told
+    ensures { λ r. ⌜ r ≡ toldWith answer session reply ⌝ }
+{
+    Told {
+        answer: answer,
+        value: 0,
+        session: session,
+        reply: reply,
+        stores: 0,
     }
 }

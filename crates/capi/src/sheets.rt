@@ -1,21 +1,10 @@
 // The image check's answer as numbers (RULES 10.4).
 ghost use mathlib.Core.Path.{_≡_};
-ghost use Rattle.image.specs.Check.{meaning};
-ghost use Rattle.capi.specs.Told.{placeOf, nowhere as noPlace, refusedSheet, layoutSheet, sheetOf};
+ghost use Rattle.image.specs.Check.{checkOf};
+ghost use Rattle.capi.specs.Told.{nowhere as noPlace, refusedSheet, layoutSheet, sheetOf};
 use crate::Place;
 use crate::Sheet;
-use image::Fit;
 use image::Layout;
-use image::Section;
-
-fn place(s: Section) -> Place
-    ensures { λ r. ⌜ r ≡ placeOf s ⌝ }
-{
-    Place {
-        at: s.at,
-        words: s.words,
-    }
-}
 
 fn nowhere() -> Place
     ensures { λ r. ⌜ r ≡ noPlace ⌝ }
@@ -45,23 +34,44 @@ fn laid_out(y: Layout) -> Sheet
     Sheet {
         answer: 0,
         block: y.block,
-        status: place(y.status),
-        reserved: place(y.reserved),
-        epc: place(y.epc),
-        tid: place(y.tid),
-        user: place(y.user),
-        perma: place(y.perma),
-        work: place(y.work),
+        status: Place {
+            at: y.status.at,
+            words: y.status.words,
+        },
+        reserved: Place {
+            at: y.reserved.at,
+            words: y.reserved.words,
+        },
+        epc: Place {
+            at: y.epc.at,
+            words: y.epc.words,
+        },
+        tid: Place {
+            at: y.tid.at,
+            words: y.tid.words,
+        },
+        user: Place {
+            at: y.user.at,
+            words: y.user.words,
+        },
+        perma: Place {
+            at: y.perma.at,
+            words: y.perma.words,
+        },
+        work: Place {
+            at: y.work.at,
+            words: y.work.words,
+        },
     }
 }
 
-pub fn sheet(fit: Fit) -> Sheet
-    ensures { λ r. ⌜ r ≡ sheetOf (meaning fit) ⌝ }
+// The check's answer, read from the image.
+pub fn sheet(image: &[u8]) -> Sheet
+    ensures { λ r. ⌜ r ≡ sheetOf (checkOf (now (image .entry))) ⌝ }
 {
-    match fit {
-        Fit::Short => refused(1),
-        Fit::Header => refused(2),
-        Fit::Content => refused(3),
-        Fit::Good(y) => laid_out(y),
+    let answer = image::verdict(image);
+    if answer != 0 {
+        return refused(answer);
     }
+    laid_out(image::read_layout(image))
 }

@@ -26,6 +26,7 @@ use Rattle.frames.specs.declared.Order.{Order}
 use Rattle.frames.specs.declared.Order.the-variants as order
 use Rattle.frames.proofs.Orders.{Small}
 use Rattle.rights.specs.declared.Code.the-variants as code
+use Rattle.rights.proofs.Banks.{bank-end}
 use Rattle.rights.specs.Rights.{bankOf, pwdBit, permaBit, mayWrite, beyond, badPc, blockOpen, lockedTo, pairBreaks}
 use Rattle.stores.specs.Cuts.{Change}
 use Rattle.stores.proofs.Sane.{goes-under}
@@ -78,14 +79,7 @@ module _ (y : Layout) (m : List ℕ) (g : Good y m) where
   hd = g .header
 
   bank-under : (b i : ℕ) → i ≤ bankOf y b .words → bankOf y b .at + i ≤ y .perma .at
-  bank-under b i l = go (eqb b 0) (eqb b 1) (eqb b 2) l
-    where
-      go : (p q r : Bool) → i ≤ cond p (y .reserved) (cond q (y .epc) (cond r (y .tid) (y .user))) .words
-          → cond p (y .reserved) (cond q (y .epc) (cond r (y .tid) (y .user))) .at + i ≤ y .perma .at
-      go true q r l = omega (arith, hd)
-      go false true r l = omega (arith, hd)
-      go false false true l = omega (arith, hd)
-      go false false false l = omega (arith, hd)
+  bank-under b i l = omega (arith, bank-end y m b hd)
 
   -- a PC that the span takes fits
   pc-fits : (s : Span) (pc j : ℕ) → badPc y s pc ≡ false → s .bank ≡ 1 → s .pointer + j ≡ 1 → j < s .count → lengthOf pc + 2 ≤ y .epc .words

@@ -1,18 +1,15 @@
--- `capi::records::session` meets its contract: its own record, or Off. Assumes nothing.
-use Rattle.capi.specs.Records.{sessionOf}
+-- `capi::records::session` meets its contract: a record that fits, or Off, by `fit-near` and `unfit-off`. Assumes nothing.
+use Rattle.capi.proofs.Fits.{fit-near, unfit-off}
+use mathlib.Core.Path.{sym, _∙_}
 use borrow.Author.Needs.{needs}
 use Rattle.capi.proofs.records.session.Statement.{statement}
 use Rattle.capi.proofs.records.session.Tie as tie
 
 returns : tie.Need-returns
-unfolding sessionOf
-returns c = rw (← c .before .before .before .loose .ensures, ← c .before .before .record-of .ensures, ← c .before .same .ensures) (simp (c .if1 .taken))
+returns c = rw (c .near .ensures) (fit-near _ (sym (c .before .before .fits2 .ensures) ∙ c .before .if1 .taken))
 
 returns-2 : tie.Need-returns-2
-unfolding sessionOf
-returns-2 c = rw (c .off .ensures, ← c .before .before .before .before .loose .ensures, ← c .before .before .before .record-of .ensures, ← c .before .before .same .ensures) (simp (c .before .if1 .left))
+returns-2 c = rw (c .off .ensures) (unfit-off _ (sym (c .before .before .fits2 .ensures) ∙ c .before .if1 .left))
 
 pub session-spec : {M : Type 1} → statement M
-session-spec =
-    tie.close
-    (tie.spec (search needs) (search needs) (search needs) returns (search needs) returns-2)
+session-spec = tie.close (tie.spec (search needs) (search needs) returns (search needs) returns-2)

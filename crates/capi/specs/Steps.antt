@@ -1,0 +1,64 @@
+-- A record read as the code reads it: which records are those of sessions under power, and of which. Equal to `sessionOf` by `fit-near` and `unfit-off`. Assumes nothing.
+use Prim.Native.Nat.{ℕ}
+use mathlib.Core.Bool.{Bool, cond, not, _&&_, _||_}
+use lib.Dec.{eqb, leb, ltb}
+use lib.Bits.{bitOr}
+use Rattle.tag.specs.declared.Link.{Link}
+use Rattle.tag.specs.declared.State.{State}
+use Rattle.tag.specs.declared.State.the-variants as state
+use Rattle.tag.specs.declared.Session.{Session}
+use Rattle.capi.specs.declared.Record.{Record}
+use Rattle.capi.specs.declared.Told.{Told}
+use Rattle.capi.specs.Records.{linkOf, onOf}
+
+-- the state of a record that has one: with a link or without
+abbrev pub linkedState : ℕ → Link → State
+linkedState st k = cond (eqb st 3) (state.Open k) (state.Secured k)
+
+abbrev pub bareState : ℕ → ℕ → State
+bareState st n = cond (eqb st 2) (state.Acknowledged n) (cond (eqb st 1) state.Arbitrate state.Killed)
+
+unfoldable pub stateOf : Record → Link → State
+stateOf r k = cond (eqb (r .state) 3 || eqb (r .state) 4) (linkedState (r .state) k) (bareState (r .state) (r .number))
+
+unfoldable pub nearOf : Record → Session
+nearOf r = onOf r (stateOf r (linkOf r))
+
+-- what is 0 or 1 is
+unfoldable pub flagsFit : Record → Bool
+flagsFit r = leb (bitOr (bitOr (bitOr (r .held) (r .unwritten)) (r .killed)) (r .covered)) 1
+
+-- a cover number and an upper half are 0 where there is none, and the half is one of three
+unfoldable pub numbersFit : Record → Bool
+numbersFit r = (not (eqb (r .covered) 0) || eqb (r .cover) 0) && cond (eqb (r .half) 0) (eqb (r .upper) 0) (leb (r .half) 2)
+
+-- no cover and no half
+unfoldable pub isBare : Record → Bool
+isBare r = eqb (bitOr (bitOr (bitOr (r .covered) (r .half)) (r .cover)) (r .upper)) 0
+
+-- a state holds only what belongs to it
+unfoldable pub stateFits : Record → Bool
+stateFits r = cond (eqb (r .state) 3 || eqb (r .state) 4) (numbersFit r) (isBare r && (eqb (r .state) 2 || eqb (r .number) 0))
+
+-- the record is that of a session under power
+unfoldable pub fitsOf : Record → Bool
+fitsOf r = not (eqb (r .state) 0 || ltb 5 (r .state)) && flagsFit r && stateFits r
+
+-- the record with bit 0 of its register set
+abbrev pub killedRecord : Record → Record
+killedRecord r =
+    record {
+      state = r .state;
+      held = r .held;
+      unwritten = r .unwritten;
+      killed = 1;
+      covered = r .covered;
+      half = r .half;
+      number = r .number;
+      cover = r .cover;
+      upper = r .upper;
+    }
+
+-- an answer without stores: its number, the record and the reply's length
+abbrev pub toldWith : ℕ → Record → ℕ → Told
+toldWith answer session reply = record { answer = answer; value = 0; session = session; reply = reply; stores = 0 }
