@@ -5,7 +5,7 @@
 #include <time.h>
 #include "agree.h"
 
-#define TURNS 41
+#define TURNS 301
 
 static uint8_t image[9604], room[8300], words[128];
 static size_t bytes;
