@@ -5,7 +5,6 @@ use mathlib.Core.List.{List, [], _∷_}
 use native.Mathlib.Omega.{arith}
 use native.Mathlib.Decide.{decLt}
 use lib.ListN.{length, getD}
-use lib.Seq.{take-nil}
 use Rattle.bits.specs.Words.{wordAt, withWord, Store, store}
 use Rattle.bits.specs.Bits.{fieldAt}
 use Rattle.bits.specs.Below.{below}
@@ -20,13 +19,6 @@ pub from-words : (o : ℕ) (d : List ℕ) (n : ℕ) → ((j : ℕ) → getD d j 
 from-words o d n h =
     below-same (wordFrom o d 0) (wordTo o d) n
     (λ j l. let z : 0 + 16 * j ≡ 16 * j = omega arith in ap (store (o + j)) (ap (λ (p : ℕ). fieldAt d p 16) z ∙ field-word d j h))
-
-pub made-one : (w o v : ℕ) {d : List ℕ} {s k : ℕ} {m n : List ℕ} → d ≡ withWord (0 ∷ 0 ∷ []) 0 v → Made (changeStores w (below (wordTo o d) 1)) s m n k
-    → Made (changeStores w (store o v ∷ [])) s m n k
-made-one w o v {d} {s} {k} {m} {n} e p =
-    let z : o + 0 ≡ o = omega arith in
-    let v₁ : wordAt d 0 ≡ v = ap (λ (l : List ℕ). wordAt l 0) e ∙ word-with-same (0 ∷ 0 ∷ []) 0 v (omega arith) in
-    subst (λ (xs : List Store). Made (changeStores w xs) s m n k) (ap₂ (λ (a b : ℕ). store a b ∷ []) z v₁) p
 
 pub made-same : (w : ℕ) (f g : ℕ → Store) (c : ℕ) {s k : ℕ} {m n : List ℕ} → ((j : ℕ) → j < c → f j ≡ g j) → Made (changeStores w (below f c)) s m n k
     → Made (changeStores w (below g c)) s m n k
@@ -48,6 +40,3 @@ next-word b j v f l e h i k = go (decLt i j)
     go : Dec (i < j) → wordAt (withWord b j v) i ≡ f i
     go (yes s) = word-with-other b j v i (omega arith) ∙ h i s
     go (no s) = let z : i ≡ j = omega arith in rw z (word-with-same b j v l ∙ e)
-
-pub made-none : (w s : ℕ) (m : List ℕ) → Made (changeStores w []) s m m 0
-made-none w s m = record { image = rw take-nil; made = omega arith }

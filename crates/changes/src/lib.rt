@@ -41,9 +41,7 @@ pub fn store_one(image: &mut [u8], work: usize, at: usize, v: u16, s: usize) -> 
     requires { ⌜ Holds work at 1 (length (now image)) ⌝ }
     ensures { λ r. ⌜ Made (changeStores work (storeOf at v ∷ [])) s (now (image .entry)) (now (image .exit)) r ⌝ }
 {
-    let mut word = [0u8; 2];
-    bits::store_word(&mut word, 0, v);
-    store_words(image, work, at, 1, &word, s)
+    stores::change_one(image, work, at, v, s)
 }
 
 // Zeros.

@@ -53,6 +53,14 @@ shifted-announced w (x ∷ xs) h =
     shifted-append w (staged 1 (x ∷ xs)) (store 0 (length (x ∷ xs)) ∷ [])
     ∙ ap₂ _++_ (shifted-staged w 1 (x ∷ xs)) (ap (λ (i : ℕ). store i (length (x ∷ xs)) ∷ []) e)
 
+-- one word: pair and count in the part from WORK on, then the word and the count 0
+pub change-one : (w : ℕ) (m : List ℕ) (x : Store) {s l k r : ℕ} {t n o : List ℕ} → 2 * w ≤ length m
+    → Ran (announced (x ∷ [])) s (take (length m - 2 * w) (drop (2 * w) m)) t l → Ran (x ∷ []) l (whole w m t) n k → Ran (store w 0 ∷ []) k n o r
+    → Made (changeStores w (x ∷ [])) s m o (s - r)
+change-one w m x {s} {l} {t = t} size a b c =
+    ran-made
+    (ran-append (subst (λ (xs : List Store). Ran xs s m (whole w m t) l) (shifted-announced w (x ∷ []) (omega arith)) (ran-tail w m size a)) (ran-append b c))
+
 -- pairs and count in the part from WORK on, and what follows in the whole
 module _ (w : ℕ) (m : List ℕ) (size : 2 * w ≤ length m) {xs : List Store} {s : ℕ} {t : List ℕ} {r : Staged}
     (a : Announced xs s (take (length m - 2 * w) (drop (2 * w) m)) t r) where

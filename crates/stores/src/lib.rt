@@ -1,6 +1,6 @@
 // Stores under a limited power: staging, applying, and the stores of power-up (RULES 2).
 ghost use mathlib.Core.Path.{_≡_};
-ghost use mathlib.Core.List.{[], _∷_, _++_};
+ghost use mathlib.Core.List.{[], _∷_};
 ghost use Prim.Native.Nat.{ℕ, _+_, _*_, _^_, _≤_, _<_};
 ghost use lib.ListN.{length};
 ghost use Rattle.bits.specs.Words.{wordAt, store as storeOf};
@@ -8,7 +8,7 @@ ghost use Rattle.bits.specs.Bits.{fieldAt};
 ghost use Rattle.image.specs.Content.{lengthOf, pcWord};
 ghost use Rattle.image.specs.Rules.{Good};
 ghost use Rattle.stores.specs.Stores.{staged as stagedOf, finished, changeStores, epcCrc, powerStores};
-ghost use Rattle.stores.specs.Steps.{Ran, Made, StagedTo, Announced, pairsAt, chosenAt, chosen};
+ghost use Rattle.stores.specs.Steps.{Ran, Made, StagedTo, announced, Announced, pairsAt, chosenAt, chosen};
 use image::Layout;
 
 // How far staging has come: the power left, and the pairs staged.
@@ -134,6 +134,15 @@ fn stage(
     }
 }
 
+// The pair of one word, then the count 1, into the work area. Answers the stores left.
+fn stage_one(area: &mut [u8], left: usize, at: usize, v: u16) -> usize
+    requires { ⌜ (at < 65536) × (6 ≤ length (now area)) ⌝ }
+    ensures { λ r. ⌜ Ran (announced (storeOf at v ∷ [])) left (now (area .entry)) (now (area .exit)) r ⌝ }
+{
+    let rest = put_pair(area, left, 0, at as u16, v);
+    spend(area, rest, 0, 1)
+}
+
 // The words of the first n pairs of WORK. Answers the stores left.
 fn apply(image: &mut [u8], work: usize, n: usize, left: usize) -> usize
     requires { ⌜ (n < 256) × (work < 65536) × (2 * (work + 1 + 2 * n) ≤ length (now image)) ⌝ }
@@ -190,6 +199,16 @@ pub fn change(
     }
     let rest = settle(image, work, k, left);
     s - rest
+}
+
+// A change of one word. Answers the stores made, of at most s.
+pub fn change_one(image: &mut [u8], work: usize, at: usize, v: u16, s: usize) -> usize
+    requires { ⌜ (at < work) × (work < 65536) × (2 * (work + 3) ≤ length (now image)) ⌝ }
+    ensures { λ r. ⌜ Made (changeStores work (storeOf at v ∷ [])) s (now (image .entry)) (now (image .exit)) r ⌝ }
+{
+    let staged = stage_one(&mut image[2 * work..], s, at, v);
+    let stored = spend(image, staged, at, v);
+    s - spend(image, stored, work, 0)
 }
 
 // The CRC-16 over the PC and the L words after it.
