@@ -69,9 +69,10 @@ fn laid_out(y: Layout) -> Sheet
 pub fn sheet(image: &[u8]) -> Sheet
     ensures { λ r. ⌜ r ≡ sheetOf (checkOf (now (image .entry))) ⌝ }
 {
-    let answer = image::verdict(image);
-    if answer != 0 {
-        return refused(answer);
+    match image::ready(image) {
+        1 => refused(1),
+        2 => refused(2),
+        3 => refused(3),
+        _ => laid_out(image::read_layout(image)),
     }
-    laid_out(image::read_layout(image))
 }

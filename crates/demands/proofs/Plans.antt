@@ -34,8 +34,7 @@ use Rattle.tag.specs.declared.Half.{Half}
 use Rattle.tag.specs.declared.Half.the-variants as half
 use Rattle.tag.specs.declared.Link.{Link}
 use Rattle.tag.specs.Commands.{codeOf, uncovered, placeOf, killWords, wordsAfter}
-use Rattle.tag.specs.Port.{portWrites, writtenWords}
-use Rattle.tag.specs.PortSteps.{portOpen}
+use Rattle.tag.specs.Port.{portOpen, portWrites, writtenWords}
 use Rattle.tag.proofs.Plans.{within-bank, perma-small, write-rows, perma-rows, lock-rows}
 use Rattle.demands.proofs.Sound.{Sound, bank-sound, user-sound, lock-sound, killed-sound, perma-sound}
 
@@ -89,7 +88,7 @@ module _ (y : Layout) (m : List ℕ) (g : Good y m) where
       ltb-false _ _ (rw (eq-eqb (s .bank) 1 b, le-leb (s .pointer) 1 a, lt-ltb 1 (s .pointer + s .count) c) at e)
 
   -- the words of a span, each with the value f j, where no code applies
-  span-plan : (q : Bool) (s : Span) (pc : ℕ) (f : ℕ → ℕ) → s .bank < 4 → beyond y s ≡ false
+  span-plan : (q : Bool) (s : Span) (pc : ℕ) (f : ℕ → ℕ) → s .bank < 4 → beyond (bankOf y (s .bank)) s ≡ false
       → (s .count ≤ pairsIn y) × (every (λ j. mayWrite y m q (s .bank) (s .pointer + j)) (s .count) ≡ true) × (badPc y s pc ≡ false)
       → ((j : ℕ) → s .pointer + j ≡ 1 → f j ≡ pc) → Plan y m (below (λ j. store (placeOf y s + j) (f j)) (s .count))
   span-plan q s pc f b w r v =

@@ -12,7 +12,6 @@ use Rattle.bits.proofs.Stores.{Fine, Fits, all-take, all-append, all-imp, after
 use Rattle.image.specs.declared.Layout.{Layout}
 use Rattle.image.specs.Layout.{layoutOf, end, blocksIn}
 use Rattle.image.specs.Content.{permalock, countIn, pending}
-use Rattle.image.specs.Check.{good}
 use Rattle.image.specs.Rules.{Header, Good}
 use Rattle.image.proofs.Answers.{check-good, good-check}
 use Rattle.image.proofs.Fits.{go-below}

@@ -2,7 +2,7 @@
 -- the session and the words stored (RULES D2, 3.9 to 3.22 and 4). Its proof: `demand-2` in proofs/Commands. Assumes nothing.
 use Prim.Native.Nat.{ℕ, _+_, _-_, _*_, _≤_, _<_}
 use mathlib.Core.Path.{_≡_}
-use mathlib.Core.Bool.{Bool, true, false, cond, _&&_}
+use mathlib.Core.Bool.{Bool, true, false, cond}
 use mathlib.Core.List.{List, [], _∷_}
 use lib.Bits.{bitXor, bitOr}
 use lib.Dec.{eqb}
@@ -36,7 +36,7 @@ use Rattle.tag.specs.declared.State.{State}
 use Rattle.tag.specs.declared.State.the-variants as state
 use Rattle.tag.specs.Session.{on, clear}
 use Rattle.tag.specs.Result.{Result, leaves}
-use Rattle.tag.specs.Commands.{accessWord, killWord, isKilled}
+use Rattle.tag.specs.Commands.{accessWord, killWord, zeroKill, zeroAccess, isKilled}
 use Rattle.tag.specs.Power.{poweredTo, powerUpOf}
 use Rattle.tag.specs.Table.{input, frameOf, answered, admitOf}
 use Rattle.tag.specs.Port.{isLinked, numberIn, writtenWords, someUnwritten, transferred, askOf, releaseOf, registerOf, readOf, writeOf, withUnwritten, withKilled}
@@ -88,12 +88,6 @@ pub record Says (a : Air) (n : ℕ) (o : Order) : Type 0 where
 abbrev pub Does : Layout → Air → Register → ℕ → Order → State → State → Reply → List Store → Type 0
 Does y a r n o st st′ rp ws = Says a n o → Enough y a rp ws → answer a st r ≡ done y a r st′ rp ws
 
-abbrev pub zeroAccess : Layout → List ℕ → Bool
-zeroAccess y m = eqb (accessWord y m 0) 0 && eqb (accessWord y m 1) 0
-
-abbrev pub zeroKill : Layout → List ℕ → Bool
-zeroKill y m = eqb (killWord y m 0) 0 && eqb (killWord y m 1) 0
-
 -- n words of the frame from bit p on, for the words from o on
 abbrev pub wordsTo : ℕ → List ℕ → ℕ → ℕ → List Store
 wordsTo o f p n = below (λ j. store (o + j) (fieldAt f (p + 16 * j) 16)) n
@@ -108,7 +102,7 @@ pub record Radio (y : Layout) (a : Air) (r : Register) : Type 0 where
   -- Read: the words of the span, where no code applies
   pub read : (q : Bool) (h : ℕ) (c : Cover) (b p n : ℕ) → readCode y (a .image) q (span b p n) ≡ code.Nothing
       → Does y a r h (order.Read (span b p n)) (linked q (link h c half.Nothing)) (linked q (link h cover.Nothing half.Nothing))
-      (reply.Words (bankOf y b .at + p) (spanWords y (span b p n)) h) []
+      (reply.Words (bankOf y b .at + p) (spanWords (bankOf y b) (span b p n)) h) []
   -- Write: the word without its cover, which is used up
   pub write : (q : Bool) (h c : ℕ) (b p w : ℕ) → writeCode y (a .image) q (span b p 1) (bitXor w c) ≡ code.Nothing
       → Does y a r h (order.Write (span b p 1) w) (linked q (link h (cover.Number c) half.Nothing)) (linked q (link h cover.Nothing half.Nothing))

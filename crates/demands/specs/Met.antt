@@ -28,12 +28,13 @@ use Rattle.stores.specs.Stores.{powerStores}
 use Rattle.tag.specs.declared.Answer.the-variants as answer
 use Rattle.tag.specs.declared.State.the-variants as state
 use Rattle.tag.specs.declared.Outcome.{Outcome}
+use Rattle.tag.specs.Commands.{zeroKill}
 use Rattle.tag.specs.Power.{started, powerUpOf}
 use Rattle.tag.specs.Table.{frameOf}
 use Rattle.tag.specs.Port.{writeOf}
 use Rattle.demands.specs.Calls.{Tag, frame, answerOf, Meets, Idle}
 use Rattle.demands.specs.Demands.{Storing, byRadio, byPort, told}
-use Rattle.demands.specs.Commands.{Air, Says, Enough, zeroKill, wordsTo}
+use Rattle.demands.specs.Commands.{Air, Says, Enough, wordsTo}
 use Rattle.demands.specs.Worked.{reqRn, write3, readTwo, secured, usedUp}
 use Rattle.demands.specs.Ports.{holding, locked, fourWords}
 

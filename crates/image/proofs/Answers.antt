@@ -102,7 +102,7 @@ check-0 m y e = go (short m) (headerWrong m) (contentBroken m) refl refl refl
     go false false true p q r = absurd (never 3 (sym (e ∙ rows m p q r)))
     go false false false p q r = (p, q, r)
 
--- the same from the answer's number alone, as `verdict` gives it: the answer itself, then what it says
+-- the same from the answer's number alone, as the check gives it: the answer itself, then what it says
 pub row-refused : (m : List ℕ) (n : ℕ) → rowOf (checkOf m) ≡ n → (n ≡ 0 → ⊥) → refused n ≡ checkOf m
 row-refused m n e z = go (checkOf m) refl
   where

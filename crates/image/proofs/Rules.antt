@@ -1,10 +1,11 @@
 -- The tests of a good image say what the rules say, both ways. Assumes nothing.
-use Prim.Native.Nat.{ℕ, zero, suc, _+_, _-_, _*_, _%_, _≤_}
+use Prim.Native.Nat.{ℕ, zero, suc, _+_, _-_, _*_, _%_, _≤_, _<_}
 use mathlib.Core.Path.{_≡_, refl}
 use mathlib.Core.Logic.{_↔_}
 use mathlib.Core.Bool.{true, _&&_}
 use mathlib.Core.List.{List, [], _∷_}
 use native.Mathlib.Omega.{arith}
+use native.Mathlib.Nat.{div-lt-iff-lt-mul, le-div-iff-mul-le}
 use lib.Dec.{eqb, leb}
 use lib.ListN.{take}
 use borrow.Author.Tests.{ltb-true, leb-true, eqb-true, eqb-false, not-true, lt-ltb, le-leb, eq-eqb, ne-eqb}
@@ -13,7 +14,7 @@ use Rattle.bits.specs.Below.{all}
 use Rattle.bits.proofs.Below.{and-left, and-right, and-both, same-test, every-at, every-all, all-each, each-all}
 use Rattle.image.specs.declared.Section.{Section}
 use Rattle.image.specs.declared.Layout.{Layout}
-use Rattle.image.specs.Layout.{end, within, stands, headerRules, headerGood, blocksIn}
+use Rattle.image.specs.Layout.{end, up, within, stands, headerRules, headerGood, blocksIn}
 use Rattle.image.specs.Content.{permalock, pairAt, mayGo, pending, contentRules, rulesHold, againAfter, contentGood}
 use Rattle.image.specs.Rules.{Stands, Header, Content}
 use Rattle.image.specs.Steps.{startRules, startGood, bankRules, banksGood, permaRules, permaGood, workRules, workGood, headerSteps}
@@ -94,14 +95,32 @@ header-test y m h =
       ),
     )
 
+-- w words of 16 bits for u words of USER in blocks of b, by multiplication
+module _ (u b w : ℕ) (some : 1 ≤ b) where
+  all-if : up u b ≤ 16 * w → u ≤ 16 * b * w
+  all-if l = omega (arith, div-lt-iff-lt-mul {k = b} {x = u + (b - 1)} {y = 16 * w + 1} some .0 (omega (arith, l)))
+
+  if-all : u ≤ 16 * b * w → up u b ≤ 16 * w
+  if-all l = omega (arith, div-lt-iff-lt-mul {k = b} {x = u + (b - 1)} {y = 16 * w + 1} some .1 (omega (arith, l, some)))
+
+module _ (u b : ℕ) (some : 1 ≤ b) where
+  begun-if : (w : ℕ) → 16 * w ≤ up u b + 15 → 16 * b * w < u + 16 * b
+  begun-if zero l = omega (arith, some)
+  begun-if (suc k) l = omega (arith, some, le-div-iff-mul-le {k = b} {x = 16 * k + 1} {y = u + (b - 1)} some .0 (omega (arith, l)))
+
+  if-begun : (w : ℕ) → 16 * b * w < u + 16 * b → 16 * w ≤ up u b + 15
+  if-begun zero l = omega arith
+  if-begun (suc k) l = omega (arith, le-div-iff-mul-le {k = b} {x = 16 * k + 1} {y = u + (b - 1)} some .1 (omega (arith, l, some)))
+
 pub header-both : (y : Layout) (m : List ℕ) → (headerGood y m ≡ true) ↔ Header y m
 header-both y m = (header-fact y m, header-test y m)
 
 -- the code's steps ask the same
 header-steps : (y : Layout) (m : List ℕ) → Header y m → all (headerSteps y m) ≡ true
-unfolding startGood banksGood permaGood workGood
+unfolding startGood banksGood permaGood workGood blocksIn
 header-steps y m h =
     let odd : y .work .words % 2 ≡ 0 → ⊥ = omega arith in
+    let perma : Stands (y .perma) (end (y .user)) 0 16 = record { at = h .perma .at; least = omega arith; most = omega (arith, h .blocks, h .perma .most) } in
     let work : Stands (y .work) (end (y .perma)) 33 511 = record { at = h .work .at; least = omega arith; most = omega arith } in
     each-all (headerSteps y m) (
       each-all (startRules y m) (eq-eqb _ _ (h .sections), (within-test _ _ _ (h .block-least) (h .block-most), (stands-test _ _ _ _ (h .status), tt))),
@@ -111,7 +130,13 @@ header-steps y m h =
           (stands-test _ _ _ _ (h .epc), (stands-test _ _ _ _ (h .tid), (stands-test _ _ _ _ (h .user), tt))),
         ),
         (
-          each-all (permaRules y) (le-leb _ _ (h .blocks), (stands-test _ _ _ _ (h .perma), tt)),
+          each-all (permaRules y) (
+            stands-test _ _ _ _ perma,
+            (
+              le-leb _ _ (all-if (y .user .words) (y .block) (y .perma .words) (h .block-least) (omega (arith, h .perma .least))),
+              (lt-ltb _ _ (begun-if (y .user .words) (y .block) (h .block-least) (y .perma .words) (omega (arith, h .perma .most))), tt),
+            ),
+          ),
           (
             each-all (workRules y m) (stands-test _ _ _ _ work, (simp (ne-eqb _ _ odd), (eq-eqb _ _ (h .whole), tt))),
             tt,
@@ -121,13 +146,17 @@ header-steps y m h =
     )
 
 steps-header : (y : Layout) (m : List ℕ) → all (headerSteps y m) ≡ true → Header y m
-unfolding startGood banksGood permaGood workGood
+unfolding startGood banksGood permaGood workGood blocksIn
 steps-header y m e =
     let t = all-each (headerSteps y m) e in
     let a = all-each (startRules y m) (t .0) in
     let b = all-each (bankRules y) (t .1 .0) in
     let p = all-each (permaRules y) (t .1 .1 .0) in
     let w = all-each (workRules y m) (t .1 .1 .1 .0) in
+    let least : 1 ≤ y .block = within-fact _ _ _ (a .1 .0) .0 in
+    let perma : Stands (y .perma) (end (y .user)) 0 16 = stands-fact _ _ _ _ (p .0) in
+    let all : blocksIn y ≤ 16 * y .perma .words = if-all (y .user .words) (y .block) (y .perma .words) least (leb-true _ _ (p .1 .0)) in
+    let begun : 16 * y .perma .words ≤ blocksIn y + 15 = if-begun (y .user .words) (y .block) least (y .perma .words) (ltb-true _ _ (p .1 .1 .0)) in
     let work : Stands (y .work) (end (y .perma)) 33 511 = stands-fact _ _ _ _ (w .0) in
     let odd : y .work .words % 2 ≡ 0 → ⊥ = eqb-false _ _ (not-true _ (w .1 .0)) in
     record {
@@ -139,8 +168,8 @@ steps-header y m e =
       epc = stands-fact _ _ _ _ (b .1 .0);
       tid = stands-fact _ _ _ _ (b .1 .1 .0);
       user = stands-fact _ _ _ _ (b .1 .1 .1 .0);
-      blocks = leb-true _ _ (p .0);
-      perma = stands-fact _ _ _ _ (p .1 .0);
+      blocks = omega (arith, all, perma .most);
+      perma = record { at = perma .at; least = omega (arith, all); most = omega (arith, begun) };
       work = record { at = work .at; least = omega (arith, odd); most = omega (arith, odd) };
       pairs-least = omega (arith, work .least);
       pairs-most = omega (arith, work .most);

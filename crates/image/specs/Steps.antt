@@ -7,7 +7,7 @@ use lib.ListN.{length}
 use Rattle.bits.specs.Words.{wordAt}
 use Rattle.bits.specs.Below.{every, all}
 use Rattle.image.specs.declared.Layout.{Layout}
-use Rattle.image.specs.Layout.{layoutOf, end, up, blocksIn, pairsIn, within}
+use Rattle.image.specs.Layout.{layoutOf, end, blocksIn, pairsIn, within}
 use Rattle.image.specs.Layout.{stands as Layout·stands}
 use Rattle.image.specs.Content.{lockWord, killedWord, lengthOf, pcWord, countIn, pairAt}
 use Rattle.image.specs.Check.{rowOf, checkOf}
@@ -31,9 +31,17 @@ bankRules y =
 unfoldable pub banksGood : Layout → Bool
 banksGood y = all (bankRules y)
 
--- those of PERMA
+-- the words of USER that one word of PERMA stands for
+abbrev pub widthIn : Layout → ℕ
+widthIn y = 16 * y .block
+
+-- those of PERMA: its words stand for all of USER's, and one fewer would not
 abbrev pub permaRules : Layout → List Bool
-permaRules y = leb (blocksIn y) 256 ∷ Layout·stands (y .perma) (end (y .user)) (up (blocksIn y) 16) (up (blocksIn y) 16) ∷ []
+permaRules y =
+    Layout·stands (y .perma) (end (y .user)) 0 16
+    ∷ leb (y .user .words) (widthIn y * y .perma .words)
+    ∷ ltb (widthIn y * y .perma .words) (y .user .words + widthIn y)
+    ∷ []
 
 unfoldable pub permaGood : Layout → Bool
 permaGood y = all (permaRules y)

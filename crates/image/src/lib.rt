@@ -155,16 +155,20 @@ fn banks_good(y: Layout) -> bool
     stands(y.user, end(y.tid), 0, 4096)
 }
 
-// PERMA has a bit for each of at most 256 blocks.
+// PERMA has a bit for each of at most 256 blocks: its words hold them all, one word fewer would not. No division.
 fn perma_good(y: Layout) -> bool
     ensures { λ r. ⌜ r ≡ permaGood y ⌝ }
 {
-    let n = blocks(y);
-    if 256 < n {
+    if !stands(y.perma, end(y.user), 0, 16) {
         return false;
     }
-    let p = (n + 15) / 16;
-    stands(y.perma, end(y.user), p, p)
+    let users = y.user.words as usize;
+    let width = 16 * y.block as usize;
+    let held = width * y.perma.words as usize;
+    if held < users {
+        return false;
+    }
+    held < users + width
 }
 
 // WORK has a count and 16 to 255 pairs, and the image ends with it.
@@ -204,9 +208,9 @@ fn spare_unit(y: Layout) -> u16
     1 << ((16 - blocks(y) % 16) % 16)
 }
 
-// The four words that rules speak of keep them, each its own.
-fn words_fit(image: &[u8], y: Layout, unit: u16) -> bool
-    requires { ⌜ (unit ≡ 2 ^ spareIn y) × Header y (now image) ⌝ }
+// The four words that rules speak of keep them, each its own. A last word 0 fits any number of blocks.
+fn words_fit(image: &[u8], y: Layout) -> bool
+    requires { ⌜ Header y (now image) ⌝ }
     ensures { λ r. ⌜ r ≡ wordsFit y (now (image .entry)) ⌝ }
 {
     if 1024 <= bits::word_in(image, y.status.at as usize) {
@@ -218,7 +222,11 @@ fn words_fit(image: &[u8], y: Layout, unit: u16) -> bool
     if y.epc.words < bits::word_in(image, y.epc.at as usize + 1) / 2048 + 2 {
         return false;
     }
-    bits::word_in(image, y.work.at as usize - 1) % unit == 0
+    let last = bits::word_in(image, y.work.at as usize - 1);
+    if last == 0 {
+        return true;
+    }
+    last % spare_unit(y) == 0
 }
 
 // The value v may stand at word i.
@@ -297,8 +305,7 @@ fn content_row(image: &[u8], y: Layout) -> u8
     requires { ⌜ Header y (now image) ⌝ }
     ensures { λ r. ⌜ r ≡ contentRow y (now (image .entry)) ⌝ }
 {
-    let unit = spare_unit(y);
-    if !words_fit(image, y, unit) {
+    if !words_fit(image, y) {
         return 3;
     }
     let c = bits::word_in(image, y.work.at as usize) as usize;
@@ -308,7 +315,7 @@ fn content_row(image: &[u8], y: Layout) -> u8
     if pairs(y) < c {
         return 3;
     }
-    if !pairs_fit(image, y, unit, c) {
+    if !pairs_fit(image, y, spare_unit(y), c) {
         return 3;
     }
     5
@@ -328,17 +335,6 @@ pub fn ready(image: &[u8]) -> u8
     content_row(image, y)
 }
 
-// The number of the check's answer in the table (RULES 5), for any bytes.
-pub fn verdict(image: &[u8]) -> u8
-    ensures { λ r. ⌜ r ≡ rowOf (checkOf (now (image .entry))) ⌝ }
-{
-    let v = ready(image);
-    if v == 5 {
-        return 0;
-    }
-    v
-}
-
 // Words are pending: WORK's count isn't 0.
 pub fn pending(image: &[u8]) -> bool
     requires { ⌜ Good (layoutOf (now image)) (now image) ⌝ }
@@ -351,7 +347,7 @@ pub fn pending(image: &[u8]) -> bool
 pub fn check(image: &[u8]) -> Fit
     ensures { λ r. ⌜ meaning r ≡ checkOf (now (image .entry)) ⌝ }
 {
-    match verdict(image) {
+    match ready(image) {
         1 => Fit::Short,
         2 => Fit::Header,
         3 => Fit::Content,

@@ -1,7 +1,7 @@
 // Replies out: bits into a lent room, the first bit highest (RULES 3.9 to 3.11).
 ghost use mathlib.Core.Path.{_≡_};
 ghost use mathlib.Core.List.{[]};
-ghost use Prim.Native.Nat.{_+_, _-_, _*_, _%_, _^_, _≤_, _<_};
+ghost use Prim.Native.Nat.{_+_, _-_, _*_, _%_, _≤_, _<_};
 ghost use lib.ListN.{length, replicate};
 ghost use Rattle.bits.specs.Bits.{bitsOf};
 ghost use Rattle.crc.specs.Crc.{run};

@@ -1,5 +1,5 @@
 -- Laws of the search for the first locked word. Assumes nothing.
-use Prim.Native.Nat.{ℕ, zero, suc, _+_, _-_, _*_, _/_, _<_}
+use Prim.Native.Nat.{ℕ, zero, suc, _+_, _-_, _*_, _/_, _≤_, _<_}
 use mathlib.Core.Path.{_≡_, refl, sym, ap, _∙_}
 use mathlib.Core.Bool.{Bool, true, false, cond, _&&_}
 use mathlib.Core.List.{List}
@@ -36,6 +36,11 @@ skip-open y m i (suc n) (suc k) h =
     let q : suc n - suc k ≡ n - k = omega arith in
     rw (p, q, o) (skip-open y m (i + 1) n k (λ j l. (let r : i + 1 + j ≡ i + suc j = omega arith in rw r (h (suc j) (omega arith)))))
 
+-- from word i on, the rest of its block is as open as it
+pub block-alike : (y : Layout) (m : List ℕ) (i k : ℕ) → 0 < y .block → i ≤ k → k < (i / y .block + 1) * y .block → blockOpen y m k ≡ blockOpen y m i
+block-alike y m i k w l s =
+    ap (λ (x : ℕ). eqb (permalock y m x) 0) (div-eq-of-lt-le {k = i / y .block} (y .block) {m = k} (omega (arith, div-mul-le-self i (y .block))) (omega (arith, s)))
+
 -- where word i's block is open, the rest of the block is passed over with it
 pub block-passed : (y : Layout) (m : List ℕ) (i stop : ℕ) → 0 < y .block → blockOpen y m i ≡ true
     → firstLocked y m i (stop - i) ≡ firstLocked y m ((i / y .block + 1) * y .block) (stop - (i / y .block + 1) * y .block)
@@ -46,7 +51,7 @@ block-passed y m i stop w o =
     let f : stop - i - (next - i) ≡ stop - next = omega (arith, lt-div-mul-add {a = i} {b = y .block} w) in
     rw (e, f) at
     (skip-open y m i (stop - i) (next - i)
-    (λ j l. ap (λ (x : ℕ). eqb (permalock y m x) 0) (div-eq-of-lt-le {k = b} (y .block) {m = i + j} (omega (arith, div-mul-le-self i (y .block))) (omega arith)) ∙ o))
+    (λ j l. block-alike y m i (i + j) w (omega arith) (omega arith) ∙ o))
 
 -- without a block size every word stands in block 0
 pub all-passed : (y : Layout) (m : List ℕ) (i n : ℕ) → y .block ≡ 0 → blockOpen y m i ≡ true → firstLocked y m i n ≡ found.Nothing

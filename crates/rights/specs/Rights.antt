@@ -60,20 +60,20 @@ mayWrite y m secured b i =
     && not (eqb b 1 && eqb i 0)
     && (not (eqb b 3) || blockOpen y m i)
 
--- the words of a span: to the bank's end where the count is 0
-abbrev pub spanWords : Layout → Span → ℕ
-spanWords y s = cond (eqb (s .count) 0) (bankOf y (s .bank) .words - s .pointer) (s .count)
+-- the words of a span of the bank b: to its end where the count is 0
+abbrev pub spanWords : Section → Span → ℕ
+spanWords b s = cond (eqb (s .count) 0) (b .words - s .pointer) (s .count)
 
--- a pointer at or beyond the bank's end, or words past it
-abbrev pub beyond : Layout → Span → Bool
-beyond y s = leb (bankOf y (s .bank) .words) (s .pointer) || ltb (bankOf y (s .bank) .words) (s .pointer + s .count)
+-- a pointer at or beyond the end of the bank b, or words past it
+abbrev pub beyond : Section → Span → Bool
+beyond b s = leb (b .words) (s .pointer) || ltb (b .words) (s .pointer + s .count)
 
 -- 3.20: the first code that applies to a Read
 unfoldable pub readCode : Layout → List ℕ → Bool → Span → Code
 readCode y m secured s =
     first
-    ((pastEnd, beyond y s)
-    ∷ (noRight, not (every (λ j. mayRead y m secured (s .bank) (s .pointer + j)) (spanWords y s)))
+    ((pastEnd, beyond (bankOf y (s .bank)) s)
+    ∷ (noRight, not (every (λ j. mayRead y m secured (s .bank) (s .pointer + j)) (spanWords (bankOf y (s .bank)) s)))
     ∷ [])
     code.Nothing
 
@@ -85,7 +85,7 @@ badPc y s pc = eqb (s .bank) 1 && leb (s .pointer) 1 && ltb 1 (s .pointer + s .c
 unfoldable pub writeCode : Layout → List ℕ → Bool → Span → ℕ → Code
 writeCode y m secured s pc =
     first
-    ((pastEnd, beyond y s)
+    ((pastEnd, beyond (bankOf y (s .bank)) s)
     ∷ (noRight, not (every (λ j. mayWrite y m secured (s .bank) (s .pointer + j)) (s .count)))
     ∷ (pastEnd, badPc y s pc)
     ∷ (other, ltb (pairsIn y) (s .count))

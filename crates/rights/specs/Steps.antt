@@ -1,11 +1,9 @@
 -- What the code looks for: the first locked word, and what a word asks beside its pair. Assumes nothing.
-use Prim.Native.Nat.{ℕ, zero, suc, _+_, _-_, _*_}
+use Prim.Native.Nat.{ℕ, zero, suc, _+_, _*_}
 use mathlib.Core.Bool.{Bool, true, false, cond, not, _&&_, _||_}
 use mathlib.Core.List.{List}
-use lib.Dec.{eqb, leb, ltb}
-use Rattle.image.specs.declared.Section.{Section}
+use lib.Dec.{eqb, ltb}
 use Rattle.image.specs.declared.Layout.{Layout}
-use Rattle.frames.specs.declared.Span.{Span}
 use Rattle.rights.specs.declared.Found.{Found}
 use Rattle.rights.specs.declared.Found.the-variants as found
 use Rattle.rights.specs.Rights.{blockOpen}
@@ -27,10 +25,3 @@ restOpen y m b i = not (eqb b 2) && not (eqb b 1 && eqb i 0) && (not (eqb b 3) |
 -- the header word that has the offset of bank b
 abbrev pub entryOf : ℕ → ℕ
 entryOf b = cond (ltb b 3) (4 + 2 * b) 10
-
--- `spanWords` and `beyond`, of a bank that was found
-abbrev pub wordsIn : Section → Span → ℕ
-wordsIn b s = cond (eqb (s .count) 0) (b .words - s .pointer) (s .count)
-
-abbrev pub past : Section → Span → Bool
-past b s = leb (b .words) (s .pointer) || ltb (b .words) (s .pointer + s .count)

@@ -8,8 +8,8 @@ ghost use Rattle.bits.specs.Below.{every};
 ghost use lib.ListN.{length};
 ghost use Rattle.image.specs.Layout.{layoutOf, blocksIn};
 ghost use Rattle.image.specs.Content.{permalock as permalockOf};
-ghost use Rattle.rights.specs.Rights.{bankOf, pwdBit, permaBit, opens as opensOf, pairOf, blockOpen, mayWrite, badPc, readCode, writeCode, lockedTo, pairBreaks, somePermalock, userOpenForGood, lockCode, notPerma, permaReadCode, permaCode};
-ghost use Rattle.rights.specs.Steps.{firstLocked, restOpen, entryOf, wordsIn, past};
+ghost use Rattle.rights.specs.Rights.{bankOf, pwdBit, permaBit, opens as opensOf, pairOf, blockOpen, mayWrite, spanWords, beyond as beyondOf, badPc, readCode, writeCode, lockedTo, pairBreaks, somePermalock, userOpenForGood, lockCode, notPerma, permaReadCode, permaCode};
+ghost use Rattle.rights.specs.Steps.{firstLocked, restOpen, entryOf};
 use bits::both;
 use bits::either;
 use frames::Span;
@@ -134,6 +134,14 @@ fn block_of(y: Layout, i: usize) -> usize
     i / b
 }
 
+// The first word of the block after that of USER word i.
+pub fn next_block(y: Layout, i: usize) -> usize
+    requires { ⌜ i < 2 ^ 32 ⌝ }
+    ensures { λ r. ⌜ (r ≡ (i / y .block + 1) * y .block) × (r < 2 ^ 33) ⌝ }
+{
+    (block_of(y, i) + 1) * y.block as usize
+}
+
 // The permalock bit of block b.
 fn permalock(image: &[u8], y: Layout, b: usize) -> u16
     requires { ⌜ b < 2 ^ 60 ⌝ }
@@ -220,7 +228,7 @@ fn may_write(image: &[u8], y: Layout, secured: bool, b: u16, p: usize, n: usize)
 
 // The words of a span of the bank b: to its end where the count is 0.
 pub fn span_words(b: Section, s: Span) -> usize
-    ensures { λ r. ⌜ (r ≡ wordsIn b s) × (r < 65536) ⌝ }
+    ensures { λ r. ⌜ (r ≡ spanWords b s) × (r < 65536) ⌝ }
 {
     if s.count == 0 {
         return minus(b.words as usize, s.pointer as usize);
@@ -230,7 +238,7 @@ pub fn span_words(b: Section, s: Span) -> usize
 
 // A pointer at or beyond the end of the bank b, or words past it.
 fn beyond(b: Section, s: Span) -> bool
-    ensures { λ r. ⌜ r ≡ past b s ⌝ }
+    ensures { λ r. ⌜ r ≡ beyondOf b s ⌝ }
 {
     let words = b.words as usize;
     let p = s.pointer as usize;

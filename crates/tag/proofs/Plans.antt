@@ -17,11 +17,10 @@ use Rattle.frames.specs.declared.Order.{Order}
 use Rattle.frames.specs.declared.Order.the-variants as order
 use Rattle.replies.specs.declared.Reply.{Reply}
 use Rattle.replies.specs.declared.Reply.the-variants as reply
-use Rattle.replies.specs.Pack.{packed}
 use Rattle.replies.proofs.Laws.{packed-none}
 use Rattle.stores.specs.Stores.{changeStores}
 use Rattle.stores.specs.Steps.{Made}
-use Rattle.bits.specs.Words.{Store, after}
+use Rattle.bits.specs.Words.{Store}
 use Rattle.rights.proofs.Banks.{bank-end as Banks·bank-end}
 use Rattle.rights.specs.declared.Code.{Code}
 use Rattle.rights.specs.declared.Code.the-variants as code
@@ -61,7 +60,7 @@ module _ (y : Layout) (h : List ℕ) (g : Header y h) where
   bank-end : (b : ℕ) → end (bankOf y b) ≤ y .work .at
   bank-end b = omega (arith, Banks·bank-end y h b g, g .work .at)
 
-  pub within-bank : (s : Span) → beyond y s ≡ false → (s .pointer < bankOf y (s .bank) .words) × (s .pointer + s .count ≤ bankOf y (s .bank) .words)
+  pub within-bank : (s : Span) → beyond (bankOf y (s .bank)) s ≡ false → (s .pointer < bankOf y (s .bank) .words) × (s .pointer + s .count ≤ bankOf y (s .bank) .words)
   within-bank s e =
       let b = none-or (leb (bankOf y (s .bank) .words) (s .pointer)) (ltb (bankOf y (s .bank) .words) (s .pointer + s .count)) e in
       (leb-false _ _ (b .0), ltb-false _ _ (b .1))
@@ -83,15 +82,15 @@ module _ (y : Layout) (h : List ℕ) (g : Header y h) where
   held-low o l = held o 1 (omega arith) (omega (arith, g .pairs-least))
 
   -- what each code's rows say where none holds
-  read-rows : (m : List ℕ) (q : Bool) (s : Span) → readCode y m q s ≡ code.Nothing → beyond y s ≡ false
+  read-rows : (m : List ℕ) (q : Bool) (s : Span) → readCode y m q s ≡ code.Nothing → beyond (bankOf y (s .bank)) s ≡ false
   unfolding readCode
   read-rows m q s e = none-row _ _ _ e .0
 
   pub write-rows : (m : List ℕ) (q : Bool) (s : Span) (pc : ℕ) → writeCode y m q s pc ≡ code.Nothing
-      → (beyond y s ≡ false) × (s .count ≤ pairsIn y) × (every (λ j. mayWrite y m q (s .bank) (s .pointer + j)) (s .count) ≡ true) × (badPc y s pc ≡ false)
+      → (beyond (bankOf y (s .bank)) s ≡ false) × (s .count ≤ pairsIn y) × (every (λ j. mayWrite y m q (s .bank) (s .pointer + j)) (s .count) ≡ true) × (badPc y s pc ≡ false)
   unfolding writeCode
   write-rows m q s pc e =
-      let a = none-row (beyond y s) 3 _ e in
+      let a = none-row (beyond (bankOf y (s .bank)) s) 3 _ e in
       let b = none-row (not (every (λ j. mayWrite y m q (s .bank) (s .pointer + j)) (s .count))) 4 _ (a .1) in
       let c = none-row (badPc y s pc) 3 _ (b .1) in
       (a .0, ltb-false _ _ (none-row (ltb (pairsIn y) (s .count)) 0 code.Nothing (c .1) .0), not-false _ (b .0), c .0)
@@ -116,7 +115,7 @@ module _ (y : Layout) (h : List ℕ) (g : Header y h) where
   unfolding lockCode
   lock-rows m mask action e = not-false _ (none-row (not (every (λ k. not (pairBreaks (lockWord y m) (lockedTo (lockWord y m) mask action) k)) 5)) 4 _ e .0)
 
-  span-end : (s : Span) → beyond y s ≡ false → s .pointer + spanWords y s ≤ bankOf y (s .bank) .words
+  span-end : (s : Span) → beyond (bankOf y (s .bank)) s ≡ false → s .pointer + spanWords (bankOf y (s .bank)) s ≤ bankOf y (s .bank) .words
   span-end s e = go (eqb (s .count) 0)
     where
       go : (b : Bool) → s .pointer + cond b (bankOf y (s .bank) .words - s .pointer) (s .count) ≤ bankOf y (s .bank) .words
@@ -125,7 +124,7 @@ module _ (y : Layout) (h : List ℕ) (g : Header y h) where
 
   module _ (m : List ℕ) (q : Bool) where
     -- the words of a Read, and of a BlockPermalock that reads
-    pub read-fits : (s : Span) → readCode y m q s ≡ code.Nothing → (2 * (placeOf y s + spanWords y s) ≤ length h) × (spanWords y s < 65536)
+    pub read-fits : (s : Span) → readCode y m q s ≡ code.Nothing → (2 * (placeOf y s + spanWords (bankOf y (s .bank)) s) ≤ length h) × (spanWords (bankOf y (s .bank)) s < 65536)
     read-fits s e =
         let r = span-end s (read-rows m q s e) in
         (omega (arith, r, bank-end (s .bank), g .whole), omega (arith, r, bank-end (s .bank), work-small))

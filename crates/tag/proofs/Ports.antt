@@ -4,6 +4,7 @@ use mathlib.Core.Path.{_≡_, refl, sym, ap, ap₂, _∙_, subst}
 use mathlib.Core.Bool.{true≢false, Bool, true, false, cond, not, _&&_, _||_, and-true, and-false}
 use mathlib.Core.List.{List, [], _∷_, _++_}
 use native.Mathlib.Omega.{arith}
+use native.Mathlib.Nat.{lt-div-mul-add}
 use native.Mathlib.Numerals.{add-one}
 use native.Mathlib.Decide.{decLt}
 use lib.Dec.{eqb, ltb}
@@ -25,6 +26,7 @@ use Rattle.image.proofs.Answers.{ready-none, row-0}
 use Rattle.image.proofs.Answers.{row-ready as Answers·row-ready}
 use Rattle.image.proofs.Answers.{row-pending as Answers·row-pending}
 use Rattle.rights.specs.Rights.{pwdBit, blockOpen}
+use Rattle.rights.proofs.Searches.{block-alike}
 use Rattle.replies.specs.Pack.{packed}
 use Rattle.stores.specs.Stores.{changeStores}
 use Rattle.stores.specs.Steps.{Made, chosen}
@@ -38,8 +40,8 @@ use Rattle.tag.specs.Result.{Result, leaves}
 use Rattle.tag.specs.Commands.{isKilled, accessWord}
 use Rattle.tag.specs.Table.{isOff, liveOf}
 use Rattle.tag.specs.Steps.{kept, neededFor, onSession}
-use Rattle.tag.specs.Port.{bitOf, registerTo, withKilled, withUnwritten, transferred, badCount, badData, readBits, readOf, portWrites, writtenWords, portWords, someUnwritten, writeOf}
-use Rattle.tag.specs.PortSteps.{gated, heldRow, endRow, readRow, afterKilled, writeEnd, portOpen, passing, Masked}
+use Rattle.tag.specs.Port.{bitOf, registerTo, withKilled, withUnwritten, transferred, badCount, badData, readBits, readOf, portOpen, portWrites, writtenWords, portWords, someUnwritten, writeOf}
+use Rattle.tag.specs.PortSteps.{gated, heldRow, endRow, readRow, afterKilled, writeEnd, passing, Masked}
 use Rattle.tag.proofs.Plans.{none-or}
 
 -- the first of three tests that holds
@@ -369,6 +371,27 @@ mask-next y m at z j k v h e p =
     go i l (no s) =
         let q : i ≡ j = omega arith in
         rw q (ap (λ (x : ℕ). eqb x 0) (getD-set-same z j v 0 h ∙ e) ∙ masked-byte (blockOpen y m (at + j)))
+
+-- the lock at hand is that of the words from i up to the next block
+pub record Known (y : Layout) (m : List ℕ) (i locked next : ℕ) : Type 0 where
+  pub ahead : i ≤ next
+  pub bit : locked < 2
+  pub same : (k : ℕ) → i ≤ k → k < next → locked ≡ bitOf (not (blockOpen y m k))
+
+pub known-none : (y : Layout) (m : List ℕ) (i : ℕ) → Known y m i 0 i
+known-none y m i = record { ahead = omega arith; bit = omega arith; same = λ k l s. absurd (omega (arith, l, s)) }
+
+pub known-new : (y : Layout) (m : List ℕ) (i : ℕ) {locked next : ℕ} → 0 < y .block → locked ≡ bitOf (not (blockOpen y m i)) → locked < 2
+    → next ≡ (i / y .block + 1) * y .block → (i < next) × Known y m i locked next
+known-new y m i {locked} {next} w e b n =
+    let s : i < next = omega (arith, n, lt-div-mul-add {a = i} {b = y .block} w) in
+    (s, record { ahead = omega (arith, s); bit = b; same = λ k l r. e ∙ ap (λ (t : Bool). bitOf (not t)) (sym (block-alike y m i k w l (omega (arith, n, r)))) })
+
+pub known-old : {y : Layout} {m : List ℕ} {i locked next : ℕ} → Known y m i locked next → (i ≡ next → ⊥) → (i < next) × Known y m i locked next
+known-old k h = (omega (arith, k .ahead, h), k)
+
+pub known-next : {y : Layout} {m : List ℕ} {i locked next : ℕ} → Known y m i locked next → i < next → Known y m (i + 1) locked next
+known-next k s = record { ahead = omega (arith, s); bit = k .bit; same = λ j l r. k .same j (omega (arith, l)) r }
 
 -- numbers that pass a test
 passing-most : (t : ℕ → Bool) (n : ℕ) → passing t n ≤ n

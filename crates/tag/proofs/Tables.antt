@@ -11,8 +11,7 @@ use Rattle.bits.specs.Words.{Store, after}
 use Rattle.image.specs.declared.Layout.{Layout}
 use Rattle.image.specs.Layout.{layoutOf}
 use Rattle.image.specs.Content.{countIn}
-use Rattle.image.specs.Check.{short, headerWrong, contentBroken, rowOf, checkOf}
-use Rattle.image.proofs.Answers.{row-some}
+use Rattle.image.specs.Check.{short, headerWrong, contentBroken}
 use Rattle.frames.specs.declared.Order.{Order}
 use Rattle.frames.specs.declared.Order.the-variants as order
 use Rattle.frames.specs.declared.Command.{Command}
@@ -129,10 +128,6 @@ module _ (l : Live) (m f : List ℕ) (n fresh : ℕ) (room : List ℕ) (s : ℕ)
       first-three (short m) (headerWrong m) (contentBroken m) (kept 1 l m room) (kept 2 l m room) (kept 3 l m room)
       (cond (not (eqb (countIn (layoutOf m) m) 0)) (kept 5 l m room) (cond (l .held) (kept 6 l m room) (rowsFrom7 (heardOf f n)))) p q r
       ∙ ap (λ (t : Result). cond (not (eqb (countIn (layoutOf m) m) 0)) (kept 5 l m room) (cond (l .held) (kept 6 l m room) t)) (heard-rows (heardOf f n))
-
--- the check's number, where it is none of its refusals
-pub row-left : (m : List ℕ) {v : ℕ} → v ≡ rowOf (checkOf m) → (v ≡ 1 → ⊥) → (v ≡ 2 → ⊥) → (v ≡ 3 → ⊥) → rowOf (checkOf m) ≡ 0
-row-left m e p q r = omega (arith, row-some m, e)
 
 -- rows 1, 2 and 3, and an Off session
 module _ (v : Session) (m f : List ℕ) (n fresh : ℕ) (room : List ℕ) (s : ℕ) where

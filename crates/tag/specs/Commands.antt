@@ -83,10 +83,11 @@ uncovered cover.Nothing w = w
 uncovered (cover.Number n) w = bitXor w n
 
 -- answer 9: wrong number, state, missing cover, zero range or RFU
+abbrev pub wrongBy : State → ℕ → Asks → Bool
+wrongBy st n a = not (hears st a n) || (a .cover && not (isCovered (linkOf st .cover))) || a .bad
+
 abbrev pub wrongCommand : State → Command → Bool
-wrongCommand st c =
-    let a = asksOf (c .order) in
-    not (hears st a (c .number)) || (a .cover && not (isCovered (linkOf st .cover))) || a .bad
+wrongCommand st c = wrongBy st (c .number) (asksOf (c .order))
 
 abbrev pub isKilled : State → Bool
 isKilled state.Arbitrate = false
@@ -107,6 +108,12 @@ killWord y m i = wordAt m (y .reserved .at + i)
 abbrev pub accessWord : Layout → List ℕ → ℕ → ℕ
 accessWord y m i = wordAt m (y .reserved .at + 2 + i)
 
+abbrev pub zeroKill : Layout → List ℕ → Bool
+zeroKill y m = eqb (killWord y m 0) 0 && eqb (killWord y m 1) 0
+
+abbrev pub zeroAccess : Layout → List ℕ → Bool
+zeroAccess y m = eqb (accessWord y m 0) 0 && eqb (accessWord y m 1) 0
+
 -- answer 12: the lower half makes a wrong password, or another command comes between the halves
 abbrev pub breaks : Layout → List ℕ → Link → Half → Part → Bool
 breaks y m k half.Nothing p = false
@@ -121,7 +128,7 @@ breaks y m k (half.Kill up) part.Other = true
 
 -- answer 10: the first Kill with a zero kill password
 abbrev pub killCode : Layout → List ℕ → Half → Code
-killCode y m half.Nothing = cond (eqb (killWord y m 0) 0 && eqb (killWord y m 1) 0) other code.Nothing
+killCode y m half.Nothing = cond (zeroKill y m) other code.Nothing
 killCode y m (half.Access up) = code.Nothing
 killCode y m (half.Kill up) = code.Nothing
 
@@ -161,7 +168,7 @@ abbrev pub numbered : Layout → List ℕ → ℕ → State → State
 numbered y m fresh state.Arbitrate = state.Arbitrate
 numbered y m fresh (state.Acknowledged n) =
     let k : Link = record { handle = fresh; cover = cover.Nothing; half = half.Nothing } in
-    cond (eqb (accessWord y m 0) 0 && eqb (accessWord y m 1) 0) (state.Secured k) (state.Open k)
+    cond (zeroAccess y m) (state.Secured k) (state.Open k)
 numbered y m fresh (state.Open k) = state.Open (coveredBy k (cover.Number fresh))
 numbered y m fresh (state.Secured k) = state.Secured (coveredBy k (cover.Number fresh))
 numbered y m fresh state.Killed = state.Killed
@@ -203,7 +210,7 @@ placeOf y s = bankOf y (s .bank) .at + s .pointer
 -- 3.9: the reply
 abbrev pub replyAfter : Layout → ℕ → Link → Order → Reply
 replyAfter y fresh k order.ReqRn = reply.Number fresh
-replyAfter y fresh k (order.Read s) = reply.Words (placeOf y s) (spanWords y s) (k .handle)
+replyAfter y fresh k (order.Read s) = reply.Words (placeOf y s) (spanWords (bankOf y (s .bank)) s) (k .handle)
 replyAfter y fresh k (order.Write s w) = reply.Success (k .handle)
 replyAfter y fresh k (order.Kill h) = killReply (k .handle) (k .half)
 replyAfter y fresh k (order.Lock mask action) = reply.Success (k .handle)

@@ -22,7 +22,7 @@ use Rattle.tag.specs.declared.Live.{Live}
 use Rattle.tag.specs.declared.Session.{Session}
 use Rattle.tag.specs.Session.{offSession, on, clear}
 use Rattle.tag.specs.Result.{Result, leaves}
-use Rattle.tag.specs.Commands.{isKilled, accessWord}
+use Rattle.tag.specs.Commands.{isKilled, zeroAccess}
 use Rattle.tag.specs.Table.{isOff, liveOf, answered}
 
 -- a session with its port held or free, or with another register
@@ -108,10 +108,12 @@ readOf s m at count room =
     first (refusals s m room (badCount y at count) ++ ((leaves 4 s m room, ltb (length room) (2 * count)) ∷ []))
     (transferred 0 (registerTo l (cond killed (withKilled (l .register)) (l .register))) (16 * count) 0 m (packed (readBits y m killed at count) room))
 
--- 4.4: a USER word that the port may write
+-- 4.4: the port may write; and a USER word that it may write
+abbrev pub portOpen : Layout → List ℕ → Bool
+portOpen y m = zeroAccess y m && eqb (pwdBit (lockWord y m) 4) 0
+
 abbrev pub portWrites : Layout → List ℕ → ℕ → Bool
-portWrites y m i =
-    eqb (accessWord y m 0) 0 && eqb (accessWord y m 1) 0 && eqb (pwdBit (lockWord y m) 4) 0 && blockOpen y m i
+portWrites y m i = portOpen y m && blockOpen y m i
 
 -- those of the n words of d, for USER words from `at` on, that may be written
 abbrev pub writtenWords : Layout → List ℕ → ℕ → List ℕ → ℕ → List Store

@@ -1,15 +1,15 @@
 -- The port as the code answers it: the outcome of a call, and a transfer's ends. Assumes nothing.
 use Prim.Native.Nat.{ℕ, zero, suc, _+_, _*_, _/_, _<_}
 use mathlib.Core.Path.{_≡_}
-use mathlib.Core.Bool.{Bool, cond, not, _&&_}
+use mathlib.Core.Bool.{Bool, cond, not}
 use mathlib.Core.List.{List, []}
 use lib.Dec.{eqb, ltb}
 use lib.ListN.{length, getD, take}
 use Rattle.bits.specs.Words.{after}
 use Rattle.image.specs.declared.Layout.{Layout}
 use Rattle.image.specs.Layout.{layoutOf}
-use Rattle.image.specs.Content.{countIn, lockWord}
-use Rattle.rights.specs.Rights.{pwdBit, blockOpen}
+use Rattle.image.specs.Content.{countIn}
+use Rattle.rights.specs.Rights.{blockOpen}
 use Rattle.stores.specs.Stores.{changeStores}
 use Rattle.tag.specs.declared.Live.{Live}
 use Rattle.tag.specs.declared.Power.{Power}
@@ -17,7 +17,7 @@ use Rattle.tag.specs.declared.Power.the-variants as power
 use Rattle.tag.specs.declared.Session.{Session}
 use Rattle.tag.specs.Session.{offSession}
 use Rattle.tag.specs.Result.{Result}
-use Rattle.tag.specs.Commands.{isKilled, accessWord}
+use Rattle.tag.specs.Commands.{isKilled}
 use Rattle.tag.specs.Steps.{kept}
 use Rattle.tag.specs.Port.{bitOf, registerTo, withKilled, withUnwritten, transferred, badCount, portWords, someUnwritten}
 
@@ -54,10 +54,6 @@ writeEnd l y m at d power =
     (transferred 0
     (registerTo l (cond killed (withKilled (l .register)) (withUnwritten (someUnwritten y m at (length d / 2)) (l .register))))
     0 (length stores) (after m stores) [])
-
--- the port may write USER words whose block is open
-abbrev pub portOpen : Layout → List ℕ → Bool
-portOpen y m = eqb (accessWord y m 0) 0 && eqb (accessWord y m 1) 0 && eqb (pwdBit (lockWord y m) 4) 0
 
 -- how many of the numbers below n pass a test
 abbrev pub passing : (ℕ → Bool) → ℕ → ℕ

@@ -1,6 +1,6 @@
 -- Outcomes, plans and the table's ends as the code makes them. Assumes nothing.
 use Prim.Native.Nat.{ℕ, _+_, _*_, _≤_}
-use mathlib.Core.Bool.{Bool, true, false, cond, not, _&&_, _||_}
+use mathlib.Core.Bool.{Bool, true, false, cond, not}
 use mathlib.Core.List.{List, []}
 use lib.Dec.{eqb, ltb}
 use lib.ListN.{length, take}
@@ -22,7 +22,6 @@ use Rattle.rights.specs.declared.Code.the-variants as code
 use Rattle.stores.specs.Stores.{changeStores}
 use Rattle.tag.specs.declared.Half.{Half}
 use Rattle.tag.specs.declared.Half.the-variants as half
-use Rattle.tag.specs.declared.Asks.{Asks}
 use Rattle.tag.specs.declared.State.{State}
 use Rattle.tag.specs.declared.State.the-variants as state
 use Rattle.tag.specs.declared.Live.{Live}
@@ -33,7 +32,7 @@ use Rattle.tag.specs.declared.Answer.the-variants as answer
 use Rattle.tag.specs.declared.Outcome.{Outcome}
 use Rattle.tag.specs.Session.{offSession}
 use Rattle.tag.specs.Result.{Result, result}
-use Rattle.tag.specs.Commands.{asksOf, linkOf, isSecured, isKilled, hears, isCovered, wrongCommand, breaks, codeOf, used, stateAfter, replyAfter, wordsAfter}
+use Rattle.tag.specs.Commands.{asksOf, linkOf, isSecured, isKilled, wrongBy, wrongCommand, breaks, codeOf, used, stateAfter, replyAfter, wordsAfter}
 use Rattle.tag.specs.Table.{fits, movedTo}
 
 -- an Off session, after so many stores
@@ -52,10 +51,6 @@ Placed (order.BlockWrite s p) = p ≤ 51
 Placed (order.BlockErase s) = Unit {0}
 Placed (order.ReadPermalock r s) = Unit {0}
 Placed (order.Permalock r s p) = p ≤ 51
-
--- answer 9, from what an order asks
-abbrev pub wrongBy : State → ℕ → Asks → Bool
-wrongBy st n a = not (hears st a n) || (a .cover && not (isCovered (linkOf st .cover))) || a .bad
 
 -- a half waits
 abbrev pub waiting : Half → Bool

@@ -12,8 +12,8 @@ ghost use Rattle.replies.specs.Pack.{packed};
 ghost use Rattle.tag.specs.Session.{numberOf};
 ghost use Rattle.tag.specs.Table.{liveOf};
 ghost use Rattle.tag.specs.Commands.{isKilled};
-ghost use Rattle.tag.specs.Port.{isLinked, heldTo, registerTo, bitOf, numberIn, withKilled, withUnwritten, badCount, badData, readBits, askOf, releaseOf, registerOf, readOf, writeOf};
-ghost use Rattle.tag.specs.PortSteps.{gated, heldRow, afterKilled, endRow, readRow, writeEnd, portOpen, Masked};
+ghost use Rattle.tag.specs.Port.{isLinked, heldTo, registerTo, bitOf, numberIn, withKilled, withUnwritten, badCount, badData, readBits, portOpen, askOf, releaseOf, registerOf, readOf, writeOf};
+ghost use Rattle.tag.specs.PortSteps.{gated, heldRow, afterKilled, endRow, readRow, writeEnd, Masked};
 ghost use Rattle.tag.specs.Result.{result};
 use crate::Answer;
 use crate::Live;
@@ -256,9 +256,9 @@ fn is_open(image: &[u8], y: Layout) -> bool
     rights::pwd_bit(bits::word(image, y.status.at as usize), 4) == 0
 }
 
-// In a mask of zeros, a byte for each of n USER words from word `at` on: 1 where its block is permalocked. Answers how many are 0.
+// In a mask of zeros, a byte for each of n USER words from word `at` on: 1 where its block is permalocked, asked once for each block. Answers how many are 0.
 fn mark(mask: &mut [u8], image: &[u8], y: Layout, at: usize, n: usize) -> usize
-    requires { ⌜ (n ≤ length (now mask)) × (n < 256) × (at < 65536) ⌝ }
+    requires { ⌜ (n ≤ length (now mask)) × (n < 256) × (at < 65536) × (1 ≤ y .block) ⌝ }
     requires { ⌜ ((j : ℕ) → j < n → getD (now mask) j 0 ≡ 0) ⌝ }
     ensures { λ r. ⌜ Masked y (now (image .entry)) at (now (mask .exit)) n r × (r ≤ n) ⌝ }
 {
@@ -266,9 +266,14 @@ fn mark(mask: &mut [u8], image: &[u8], y: Layout, at: usize, n: usize) -> usize
         return n;
     }
     let mut writable: usize = 0;
+    let mut locked: u8 = 0;
+    let mut next = at;
     let mut j: usize = 0;
     while j < n {
-        let locked = bit(rights::block_locked(image, y, at + j));
+        if at + j == next {
+            locked = bit(rights::block_locked(image, y, at + j));
+            next = rights::next_block(y, at + j);
+        }
         mask[j] = locked;
         writable += 1 - locked as usize;
         j += 1;
@@ -408,7 +413,7 @@ impl Session {
     pub fn write(self, image: &mut [u8], at: usize, words: &[u8], s: usize) -> Outcome
         ensures { λ r. ⌜ result r (now (image .exit)) [] ≡ writeOf self (now (image .entry)) at (now (words .entry)) s ⌝ }
     {
-        match image::verdict(image) {
+        match image::ready(image) {
             1 => radio::unmoved(self, Answer::Short),
             2 => radio::unmoved(self, Answer::Header),
             3 => radio::unmoved(self, Answer::Content),

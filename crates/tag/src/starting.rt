@@ -96,7 +96,7 @@ fn start(image: &mut [u8], y: Layout, s: usize) -> Outcome
 pub fn power_up(image: &mut [u8], s: usize) -> Outcome
     ensures { λ r. ⌜ result r (now (image .exit)) [] ≡ powerUpOf (now (image .entry)) s ⌝ }
 {
-    match image::verdict(image) {
+    match image::ready(image) {
         1 => stopped(Answer::Short, 0),
         2 => stopped(Answer::Header, 0),
         3 => stopped(Answer::Content, 0),

@@ -3,7 +3,7 @@ use denote.Ref.{now}
 use mathlib.Core.Path.{_≡_, sym, _∙_}
 use mathlib.Core.Bool.{false, true}
 use Rattle.image.specs.Layout.{layoutOf}
-use Rattle.rights.specs.Rights.{spanWords, beyond, readCode}
+use Rattle.rights.specs.Rights.{bankOf, spanWords, beyond, readCode}
 use Rattle.rights.proofs.Spans.{others-read}
 use borrow.Author.Needs.{needs}
 use Rattle.rights.proofs.read_code.Statement.{statement}
@@ -12,20 +12,20 @@ use Rattle.rights.proofs.read_code.Tie as tie
 returns : tie.Need-returns
 unfolding readCode
 returns c = let a = c .before .before .before .before .args in
-    let e : beyond (layoutOf (now (a .image))) (a .s) ≡ true = sym (rw (c .before .before .bank-in .ensures) at (c .before .beyond .ensures)) ∙ c .if1 .taken in
+    let e : beyond (bankOf (layoutOf (now (a .image))) (a .s .bank)) (a .s) ≡ true = sym (rw (c .before .before .bank-in .ensures) at (c .before .beyond .ensures)) ∙ c .if1 .taken in
     simp e
 
 returns-2 : tie.Need-returns-2
 unfolding readCode
 returns-2 c = let a = c .before .before .before .before .before .before .args in
     let y = layoutOf (now (a .image)) in
-    let e : beyond y (a .s) ≡ false = sym (rw (c .before .before .before .before .bank-in .ensures) at (c .before .before .before .beyond .ensures)) ∙ c .before .before .if1 .left in
-    rw (e, others-read y (now (a .image)) (a .secured) (a .s) (spanWords y (a .s)) (c .if2 .taken))
+    let e : beyond (bankOf y (a .s .bank)) (a .s) ≡ false = sym (rw (c .before .before .before .before .bank-in .ensures) at (c .before .before .before .beyond .ensures)) ∙ c .before .before .if1 .left in
+    rw (e, others-read y (now (a .image)) (a .secured) (a .s) (spanWords (bankOf y (a .s .bank)) (a .s)) (c .if2 .taken))
 
 returns-3 : tie.Need-returns-3
 unfolding readCode
 returns-3 c = let a = c .before .before .before .before .before .before .before .before .before .before .before .before .before .args in
-    let e : beyond (layoutOf (now (a .image))) (a .s) ≡ false = sym (rw (c .before .before .before .before .before .before .before .before .before .before .before .bank-in .ensures) at (c .before .before .before .before .before .before .before .before .before .before .beyond .ensures)) ∙ c .before .before .before .before .before .before .before .before .before .if1 .left in
+    let e : beyond (bankOf (layoutOf (now (a .image))) (a .s .bank)) (a .s) ≡ false = sym (rw (c .before .before .before .before .before .before .before .before .before .before .before .bank-in .ensures) at (c .before .before .before .before .before .before .before .before .before .before .beyond .ensures)) ∙ c .before .before .before .before .before .before .before .before .before .if1 .left in
     let k = rw (c .before .before .before .before .before .before .read-layout .ensures) at (c .before .before .before .before .word .ensures) in
     let w = rw (c .before .before .before .before .before .before .before .before .before .before .before .bank-in .ensures) at (c .before .before .span-words .ensures .0) in
     rw (e, ← k, ← w, c .before .before .before .before .before .before .before .if2 .left) (simp (← c .before .reserved-open .ensures, c .if3 .taken))
@@ -33,7 +33,7 @@ returns-3 c = let a = c .before .before .before .before .before .before .before 
 returns-4 : tie.Need-returns-4
 unfolding readCode
 returns-4 c = let a = c .before .before .before .before .before .before .before .before .before .before .before .before .before .args in
-    let e : beyond (layoutOf (now (a .image))) (a .s) ≡ false = sym (rw (c .before .before .before .before .before .before .before .before .before .before .before .bank-in .ensures) at (c .before .before .before .before .before .before .before .before .before .before .beyond .ensures)) ∙ c .before .before .before .before .before .before .before .before .before .if1 .left in
+    let e : beyond (bankOf (layoutOf (now (a .image))) (a .s .bank)) (a .s) ≡ false = sym (rw (c .before .before .before .before .before .before .before .before .before .before .before .bank-in .ensures) at (c .before .before .before .before .before .before .before .before .before .before .beyond .ensures)) ∙ c .before .before .before .before .before .before .before .before .before .if1 .left in
     let k = rw (c .before .before .before .before .before .before .read-layout .ensures) at (c .before .before .before .before .word .ensures) in
     let w = rw (c .before .before .before .before .before .before .before .before .before .before .before .bank-in .ensures) at (c .before .before .span-words .ensures .0) in
     rw (e, ← k, ← w, c .before .before .before .before .before .before .before .if2 .left) (simp (← c .before .reserved-open .ensures, c .if3 .left))

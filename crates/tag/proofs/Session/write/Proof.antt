@@ -7,10 +7,10 @@ use Rattle.tag.specs.Session.{offSession}
 use Rattle.tag.specs.declared.Session.{Session}
 use Rattle.tag.specs.declared.Power.{Power}
 use Rattle.tag.specs.declared.Live.{Live}
-use Rattle.image.proofs.Answers.{row-good, row-0, row-long, row-1, row-2, row-3, check-0}
+use Rattle.image.proofs.Answers.{ready-is, ready-left, row-good, row-0, row-long, row-1, row-2, row-3, check-0}
 use Rattle.image.specs.declared.Layout.{Layout}
-use Rattle.tag.proofs.Tables.{row-left}
 use denote.Ref.{now}
+use native.Mathlib.Omega.{arith}
 use mathlib.Core.List.{[]}
 use mathlib.Core.Path.{_≡_, sym, ap, _∙_, subst}
 use borrow.Author.Needs.{needs}
@@ -21,43 +21,46 @@ returns : tie.Need-returns
 returns c =
     let a = c .before .before .before .before .before .before .before .before .args in let m = now (a .image) in
     let r = c .before .before .before .match .rest in
-    let z = row-left m (c .before .before .before .before .verdict .ensures) (r .0 .0 .1) (r .0 .1) (r .1) in
+    let z = ready-left m (c .before .before .before .before .ready .ensures) (r .0 .0 .1) (r .0 .1) (r .1) in
     let h = check-0 m _ (row-good m z) in
     let e : a .self ≡ offSession = ap (λ (p : Power). record { power = p }) (c .before .enum-told .given .1) in
     rw (c .unmoved4 .ensures) (subst (λ (v : Session). transferred 5 v 0 0 m [] ≡ writeOf v m (a .at) (now (a .words)) (a .s)) (sym e) (write-off m (a .at) (now (a .words)) (a .s) (h .0) (h .1) (h .2)))
 
 read-layout-requires : tie.Need-read-layout-requires
-read-layout-requires c κs = row-long (now (c .before .before .before .before .before .before .before .before .before .args .image)) (λ e. c .before .before .before .before .match .rest .0 .0 .1 (c .before .before .before .before .before .verdict .ensures ∙ e))
+read-layout-requires c κs =
+    let m = now (c .before .before .before .before .before .before .before .before .before .args .image) in
+    let r = c .before .before .before .before .match .rest in
+    row-long m (λ e. omega (arith, e, ready-left m (c .before .before .before .before .before .ready .ensures) (r .0 .0 .1) (r .0 .1) (r .1)))
 
 writing-requires : tie.Need-writing-requires
 writing-requires c κs =
     let a = c .before .before .before .before .before .before .before .before .before .before .before .args in let m = now (a .image) in
     let r = c .before .before .before .before .before .before .match .rest in
-    let z = row-left m (c .before .before .before .before .before .before .before .verdict .ensures) (r .0 .0 .1) (r .0 .1) (r .1) in
+    let z = ready-left m (c .before .before .before .before .before .before .before .ready .ensures) (r .0 .0 .1) (r .0 .1) (r .1) in
     rw (c .before .read-layout .ensures) (row-0 m z)
 
 returns-2 : tie.Need-returns-2
 returns-2 c =
     let a = c .before .before .before .before .before .before .args in let m = now (a .image) in
-    rw (c .unmoved .ensures) (write-short m (a .at) (now (a .words)) (a .s) (a .self) (row-1 m (sym (c .before .before .verdict .ensures) ∙ c .before .match .keys1)))
+    rw (c .unmoved .ensures) (write-short m (a .at) (now (a .words)) (a .s) (a .self) (row-1 m (ready-is m 1 (sym (c .before .before .ready .ensures) ∙ c .before .match .keys1) (omega arith))))
 
 returns-3 : tie.Need-returns-3
 returns-3 c =
     let a = c .before .before .before .before .before .before .args in let m = now (a .image) in
-    let h = row-2 m (sym (c .before .before .verdict .ensures) ∙ c .before .match .keys2) in
+    let h = row-2 m (ready-is m 2 (sym (c .before .before .ready .ensures) ∙ c .before .match .keys2) (omega arith)) in
     rw (c .unmoved2 .ensures) (write-header m (a .at) (now (a .words)) (a .s) (a .self) (h .0) (h .1))
 
 returns-4 : tie.Need-returns-4
 returns-4 c =
     let a = c .before .before .before .before .before .before .args in let m = now (a .image) in
-    let h = row-3 m (sym (c .before .before .verdict .ensures) ∙ c .before .match .keys3) in
+    let h = row-3 m (ready-is m 3 (sym (c .before .before .ready .ensures) ∙ c .before .match .keys3) (omega arith)) in
     rw (c .unmoved3 .ensures) (write-content m (a .at) (now (a .words)) (a .s) (a .self) (h .0) (h .1) (h .2))
 
 returns-5 : tie.Need-returns-5
 returns-5 c =
     let a = c .before .before .before .before .before .before .before .before .before .before .before .before .before .before .args in let m = now (a .image) in
     let r = c .before .before .before .before .before .before .before .before .before .match .rest in
-    let z = row-left m (c .before .before .before .before .before .before .before .before .before .before .verdict .ensures) (r .0 .0 .1) (r .0 .1) (r .1) in
+    let z = ready-left m (c .before .before .before .before .before .before .before .before .before .before .ready .ensures) (r .0 .0 .1) (r .0 .1) (r .1) in
     let h = check-0 m _ (row-good m z) in
     let l : Live = c .before .before .before .before .before .before .before .power .given .0 .0 in
     let e : a .self ≡ onSession l = ap (λ (p : Power). record { power = p }) (c .before .before .before .before .before .before .before .power .given .1) in

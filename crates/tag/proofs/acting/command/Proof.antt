@@ -1,7 +1,6 @@
 -- `tag::acting::command` meets its contract: wrong, broken, or by its order, as its gate says. Assumes nothing.
 use Rattle.tag.proofs.Plans.{gate-wrong, gate-broken, gate-open, command-wrong, command-broken, command-order}
-use Rattle.tag.specs.Commands.{asksOf, linkOf, breaks}
-use Rattle.tag.specs.Steps.{wrongBy}
+use Rattle.tag.specs.Commands.{asksOf, linkOf, wrongBy, breaks}
 use Rattle.image.specs.Layout.{layoutOf}
 use native.Mathlib.Omega.{arith}
 use mathlib.Core.Path.{_∙_}

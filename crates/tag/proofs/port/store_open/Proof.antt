@@ -18,7 +18,7 @@ use Rattle.tag.proofs.port.store_open.Tie as tie
 mark-requires : tie.Need-mark-requires
 mark-requires c κs = let a = c .before .before .before .before .args in
     let h = fits-count (a .y) (a .at) (length (now (a .words)) / 2) (fits-data (a .y) (a .at) (now (a .words)) (c .before .before .before .before .pre .1 .0) .0) in
-    ((h .1, omega (arith, h .1), omega (arith, h .2, c .before .before .before .before .pre .0 .header .user .most)), λ j l. getD-replicate 255 j 0 0 (omega (arith, h .1, l)))
+    ((h .1, omega (arith, h .1), omega (arith, h .2, c .before .before .before .before .pre .0 .header .user .most), c .before .before .before .before .pre .0 .header .block-least), λ j l. getD-replicate 255 j 0 0 (omega (arith, h .1, l)))
 
 needed-requires : tie.Need-needed-requires
 needed-requires c κs = let a = c .before .before .before .before .before .before .args in
