@@ -1,16 +1,21 @@
-/* The library's time over each rival's, call by call, on a small and on the largest image. Only ratios are printed: the best of many
-   runs that take turns, in one process. */
+/* The library's time and each rival's, call by call, on a small and on the largest image: the best of many runs that take turns, in one
+   process. tests/times.py makes ratios of them. */
 #include <stdio.h>
 #include <string.h>
 #include <time.h>
 #include "agree.h"
 
-#define TURNS 301
+#define TURNS 1001
 
-static uint8_t image[9604], room[8300], words[128];
-static size_t bytes;
-static struct frame frame;
-static struct tag_session session;
+/* what a call is handed; here[0] is on the small image, here[1] on the largest */
+static struct given {
+    _Alignas(64) uint8_t image[9604];
+    size_t bytes;
+    struct frame frame;
+    struct tag_session session;
+} here[2], *in = here;
+static uint8_t room[8300], words[128];
+static int locked; /* the last block of USER is permalocked */
 static volatile unsigned sink;
 
 static double now(void) {
@@ -23,44 +28,55 @@ static double now(void) {
 typedef void (*runner)(unsigned n);
 
 static void library_check(unsigned n) {
-    while (n--) sink += tag_check(image, bytes).work.at;
+    struct given *g = in;
+    while (n--) sink += tag_check(g->image, g->bytes).work.at;
 }
 static void library_frame(unsigned n) {
-    while (n--) sink += (unsigned)tag_frame(session, image, bytes, frame.n, frame.bytes, (frame.n + 7) / 8, 0x1234, room, sizeof room, 9999).reply;
+    struct given *g = in;
+    while (n--)
+        sink += (unsigned)tag_frame(g->session, g->image, g->bytes, g->frame.n, g->frame.bytes, (g->frame.n + 7) / 8, 0x1234, room,
+                                    sizeof room, 9999)
+                    .reply;
 }
 static void library_read(unsigned n) {
-    while (n--) sink += (unsigned)tag_read(session, image, bytes, 0, 64, room, sizeof room).reply;
+    struct given *g = in;
+    while (n--) sink += (unsigned)tag_read(g->session, g->image, g->bytes, 0, 64, room, sizeof room).reply;
 }
 static void library_write(unsigned n) {
-    while (n--) sink += (unsigned)tag_write(session, image, bytes, 0, words, 128, 9999).stores;
+    struct given *g = in;
+    while (n--) sink += (unsigned)tag_write(g->session, g->image, g->bytes, 0, words, 128, 9999).stores;
 }
 
 #define RUNNERS(way)                                                                                                                     \
-    static void way##_checks(unsigned n) {                                                                                                \
+    static void way##_checks(unsigned n) {                                                                                               \
+        struct given *g = in;                                                                                                            \
         struct rival_layout y;                                                                                                           \
-        while (n--) sink += (unsigned)way##_check(image, bytes, &y) + y.work;                                                              \
+        while (n--) sink += (unsigned)way##_check(g->image, g->bytes, &y) + y.work;                                                      \
     }                                                                                                                                    \
-    static void way##_frames(unsigned n) {                                                                                                \
+    static void way##_frames(unsigned n) {                                                                                               \
+        struct given *g = in;                                                                                                            \
         struct rival_out out;                                                                                                            \
         while (n--) {                                                                                                                    \
-            struct tag_session s = session;                                                                                              \
-            way##_frame(&s, image, bytes, frame.bytes, (frame.n + 7) / 8, frame.n, 0x1234, room, sizeof room, 9999, &out);                  \
+            struct tag_session s = g->session;                                                                                           \
+            way##_frame(&s, g->image, g->bytes, g->frame.bytes, (g->frame.n + 7) / 8, g->frame.n, 0x1234, room, sizeof room, 9999, &out); \
             sink += (unsigned)out.reply;                                                                                                 \
         }                                                                                                                                \
     }                                                                                                                                    \
-    static void way##_reads(unsigned n) {                                                                                                 \
+    static void way##_reads(unsigned n) {                                                                                                \
+        struct given *g = in;                                                                                                            \
         struct rival_out out;                                                                                                            \
         while (n--) {                                                                                                                    \
-            struct tag_session s = session;                                                                                              \
-            way##_read(&s, image, bytes, 0, 64, room, sizeof room, &out);                                                                  \
+            struct tag_session s = g->session;                                                                                           \
+            way##_read(&s, g->image, g->bytes, 0, 64, room, sizeof room, &out);                                                          \
             sink += (unsigned)out.reply;                                                                                                 \
         }                                                                                                                                \
     }                                                                                                                                    \
-    static void way##_writes(unsigned n) {                                                                                                \
+    static void way##_writes(unsigned n) {                                                                                               \
+        struct given *g = in;                                                                                                            \
         struct rival_out out;                                                                                                            \
         while (n--) {                                                                                                                    \
-            struct tag_session s = session;                                                                                              \
-            way##_write(&s, image, bytes, 0, words, 128, 9999, &out);                                                                      \
+            struct tag_session s = g->session;                                                                                           \
+            way##_write(&s, g->image, g->bytes, 0, words, 128, 9999, &out);                                                              \
             sink += (unsigned)out.stores;                                                                                                \
         }                                                                                                                                \
     }
@@ -73,42 +89,46 @@ static double took(runner r, unsigned n) {
     return (now() - t) / n;
 }
 
-/* the best time of each of the three, in turns */
-static void race(const runner r[3], double best[3]) {
+/* the best time of each of the three on each image from `first` on, in turns */
+static void race(const runner r[3], int first, double best[2][3]) {
     unsigned n = 1;
-    while (took(r[0], n) * n < 1e6) n *= 2;
-    for (int i = 0; i < 3; i++) best[i] = 1e30;
+    in = &here[1];
+    while (took(r[0], n) * n < 2e5) n *= 2;
+    for (int i = 0; i < 6; i++) best[i / 3][i % 3] = 1e30;
     for (int turn = 0; turn < TURNS; turn++)
-        for (int i = 0; i < 3; i++) {
-            double t = took(r[i], n);
-            if (t < best[i]) best[i] = t;
+        for (int i = 3 * first; i < 6; i++) {
+            in = &here[i / 3];
+            double t = took(r[i % 3], n);
+            if (t < best[i / 3][i % 3]) best[i / 3][i % 3] = t;
         }
 }
 
 static void put(size_t i, unsigned v) {
-    image[2 * i] = (uint8_t)(v >> 8);
-    image[2 * i + 1] = (uint8_t)v;
+    in->image[2 * i] = (uint8_t)(v >> 8);
+    in->image[2 * i + 1] = (uint8_t)v;
 }
-static unsigned word(size_t i) { return image[2 * i] * 256u + image[2 * i + 1]; }
+static unsigned word(size_t i) { return in->image[2 * i] * 256u + in->image[2 * i + 1]; }
 
-/* small: 64 words of USER in 16 blocks; large: the largest that there is. Both have 255 pairs in WORK. */
+/* small: 64 words of USER in 4 blocks; large: the largest that there is. Both have 255 pairs in WORK. */
 static void fill(int large) {
-    bytes = large ? image_make(image, 16, 64, 33, 64, 4096, 255) : image_make(image, 4, 4, 4, 2, 64, 255);
+    in = &here[large];
+    in->bytes = large ? image_make(in->image, 16, 64, 33, 64, 4096, 255) : image_make(in->image, 16, 4, 4, 2, 64, 255);
     unsigned user = word(10), n = word(11);
     put(word(6) + 1, 2 << 11);
     for (unsigned i = 0; i < n; i++) put(user + i, 0x9E37u * i);
+    if (locked) put(word(14) - 1, 1u << (15 - (n / 16 - 1) % 16));
 }
 
 static void secured(unsigned code) {
     struct tag_session s = {TAG_SECURED, 0, 0, 0, 1, 0, 0x1234, 0x5A5A, 0};
-    session = s;
-    frame_start(&frame);
-    frame_bits(&frame, code, 8);
+    in->session = s;
+    frame_start(&in->frame);
+    frame_bits(&in->frame, code, 8);
 }
 
 static void done(void) {
-    frame_bits(&frame, 0x1234, 16);
-    frame_end(&frame);
+    frame_bits(&in->frame, 0x1234, 16);
+    frame_end(&in->frame);
 }
 
 static const runner checks[3] = {library_check, table_checks, wide_checks}, frames[3] = {library_frame, table_frames, wide_frames},
@@ -132,58 +152,79 @@ static void prepare(int call, int large) {
         put(word(14), 255);
         for (unsigned j = 0; j < 255; j++) put(word(14) + 1 + 2 * j, word(10) + j % 64);
     }
-    session = held;
+    in->session = held;
     memset(words, 0x5C, sizeof words);
     if (call < REQ_RN || call >= SPI_READ) return;
     secured(codes[call]);
     if (call > REQ_RN) {
-        frame_bits(&frame, 3, 2);
-        frame_pointer(&frame, call == READ_ALL ? 0 : 3, 1);
+        frame_bits(&in->frame, 3, 2);
+        frame_pointer(&in->frame, call == READ_ALL ? 0 : 3, 1);
     }
-    if (call == WRITE) frame_bits(&frame, 0xABCD ^ 0x5A5A, 16);
-    if (call > WRITE) frame_bits(&frame, call == BLOCK_WRITE ? 16 : call == READ ? 8 : 0, 8);
-    for (unsigned i = 0; call == BLOCK_WRITE && i < 16; i++) frame_bits(&frame, 0x1357u * i & 0xFFFF, 16);
+    if (call == WRITE) frame_bits(&in->frame, 0xABCD ^ 0x5A5A, 16);
+    if (call > WRITE) frame_bits(&in->frame, call == BLOCK_WRITE ? 16 : call == READ ? 8 : 0, 8);
+    for (unsigned i = 0; call == BLOCK_WRITE && i < 16; i++) frame_bits(&in->frame, 0x1357u * i & 0xFFFF, 16);
     done();
 }
 
-static void table_of_times(void) {
-    double worst = 0, growth = 0, small[CALLS] = {0};
-    printf("| Call | Image | to table | to 64-bit | to small |\n|---|---|---|---|---|\n");
-    for (int large = 0; large < 2; large++)
-        for (int i = 0; i < CALLS; i++) {
-            if (i == READ_ALL && !large) continue;
-            double t[3];
-            prepare(i, large);
-            race(calls[i].run, t);
-            double r = t[0] / (t[1] < t[2] ? t[1] : t[2]), g = large && small[i] > 0 ? t[0] / small[i] : 0;
-            if (r > worst) worst = r;
-            if (g > growth) growth = g;
-            printf("| %s | %s | %.2f | %.2f |", calls[i].name, large ? "largest" : "small", t[0] / t[1], t[0] / t[2]);
-            if (g > 0) printf(" %.2f", g);
-            printf(" |\n");
-            small[i] = t[0];
-        }
-    printf("worst to the faster rival %.2f, worst to small %.2f\n", worst, growth);
+/* the library's answer to the call that is prepared; only a call that is done is worth a race */
+static int answer(int call) {
+    if (calls[call].run == checks) return tag_check(in->image, in->bytes).answer;
+    if (calls[call].run == reads) return tag_read(in->session, in->image, in->bytes, 0, 64, room, sizeof room).answer;
+    if (calls[call].run == writes) return tag_write(in->session, in->image, in->bytes, 0, words, 128, 9999).answer;
+    return tag_frame(in->session, in->image, in->bytes, in->frame.n, in->frame.bytes, (in->frame.n + 7) / 8, 0x1234, room, sizeof room, 9999).answer;
+}
+
+/* a call on the small and on the largest image, or on the largest alone */
+static int prepare_both(int call) {
+    for (int large = call == READ_ALL; large < 2; large++) {
+        prepare(call, large);
+        if (!answer(call)) continue;
+        printf("speed: %s is refused\n", calls[call].name);
+        return 0;
+    }
+    return 1;
+}
+
+/* a line for each call and image: the best time of the library and of both rivals */
+static int times(void) {
+    double best[2][3];
+    for (int i = 0; i < CALLS; i++) {
+        if (!prepare_both(i)) return 1;
+        race(calls[i].run, i == READ_ALL, best);
+        for (int large = i == READ_ALL; large < 2; large++)
+            printf("%s|%s|%f|%f|%f\n", calls[i].name, large ? "largest" : "small", best[large][0], best[large][1], best[large][2]);
+    }
+    return 0;
 }
 
 /* between these two a call's instructions are counted */
 __attribute__((noinline)) static void counted_from(void) { __asm__ volatile("nop"); }
 __attribute__((noinline)) static void counted_to(void) { __asm__ volatile("nop"); }
 
-/* speed: agree, then the table. speed more: the same with ten times the calls. speed CALL IMAGE WAY: the one call, for its instructions. */
+/* the digit of an argument, below n; or n */
+static int digit(const char *word, int n) { return word[0] >= '0' && word[0] < '0' + n && !word[1] ? word[0] - '0' : n; }
+
+/* one call on one image in one way, between the marks */
+static int counted(int call, int image, int way) {
+    prepare(call, image);
+    calls[call].run[way](1);
+    printf("%lx %lx %s\n", (unsigned long)counted_from, (unsigned long)counted_to, calls[call].name);
+    counted_from();
+    calls[call].run[way](1);
+    counted_to();
+    return 0;
+}
+
 int main(int argc, char **argv) {
     table_start();
-    if (argc == 4) {
-        runner r = calls[argv[1][0] - '0'].run[argv[3][0] - '0'];
-        prepare(argv[1][0] - '0', argv[2][0] - '0');
-        r(1);
-        printf("%lx %lx %s\n", (unsigned long)counted_from, (unsigned long)counted_to, calls[argv[1][0] - '0'].name);
-        counted_from();
-        r(1);
-        counted_to();
-        return 0;
-    }
-    if (agree(argc > 1 ? 300000 : 30000)) return 1;
-    table_of_times();
-    return 0;
+    if (argc == 2 && !strcmp(argv[1], "agree")) return agree(30000) != 0;
+    if (argc == 2 && !strcmp(argv[1], "more")) return agree(300000) != 0;
+    locked = argc == 2 && !strcmp(argv[1], "locked");
+    if (locked || (argc == 2 && !strcmp(argv[1], "times"))) return times();
+    if (argc == 4 && digit(argv[1], CALLS) < CALLS && digit(argv[2], 2) < 2 && digit(argv[3], 3) < 3)
+        return counted(digit(argv[1], CALLS), digit(argv[2], 2), digit(argv[3], 3));
+    printf("speed agree: random calls\nspeed more: ten times as many\nspeed times: best times, library and rivals\n"
+           "speed locked: the same with USER's last block permalocked\n"
+           "speed CALL IMAGE WAY: one call, for its instructions\n");
+    return 2;
 }

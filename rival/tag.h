@@ -70,6 +70,7 @@ int NAME(check)(bytes m, size_t n, struct rival_layout *y) {
     if (c > y->pairs) return 3;
     for (unsigned j = 0; j < c; j++) {
         unsigned o = word(m, y->work + 1 + 2 * j), v = word(m, y->work + 2 + 2 * j);
+        if (o >= y->user && o < y->work - 1) continue; /* USER or PERMA, but its last word: any value */
         if (o < 16 || o >= y->work || (o >= y->tid && o < y->user) || !value_good(y, y->perma_words ? spare : 0, o, v)) return 3;
     }
     return 0;
@@ -305,8 +306,7 @@ static inline int open_pair(unsigned lock, unsigned pair, int secured) {
     return p < 2 || (p == 2 && secured);
 }
 
-static inline int block_locked(bytes m, const struct rival_layout *y, unsigned i) {
-    unsigned b = i / y->block;
+static inline int block_locked(bytes m, const struct rival_layout *y, unsigned b) {
     return word(m, y->perma + b / 16) >> (15 - b % 16) & 1;
 }
 
@@ -351,7 +351,7 @@ static int write_error(bytes m, const struct rival_layout *y, int secured, const
     default:
         if (!open_pair(lock, 4, secured)) return 4;
         for (unsigned b = c->pointer / y->block; b <= last / y->block; b++)
-            if (word(m, y->perma + b / 16) >> (15 - b % 16) & 1) return 4;
+            if (block_locked(m, y, b)) return 4;
     }
     return c->count > y->pairs ? 0 : NO_ERROR;
 }
@@ -584,15 +584,18 @@ int NAME(write)(struct tag_session *s, uint8_t *m, size_t mn, size_t at, bytes w
         s->unwritten = 1;
         return 0;
     }
-    uint8_t mask[255];
-    unsigned writable = 0;
-    for (unsigned j = 0; j < count; j++) {
-        mask[j] = (uint8_t)block_locked(m, &y, (unsigned)at + j);
-        writable += !mask[j];
+    uint8_t mask[255] = {0};
+    unsigned n = (unsigned)count, writable = n, b = (unsigned)at / y.block;
+    for (unsigned j = 0, stop; j < n; j = stop, b++) {
+        stop = (b + 1) * y.block - (unsigned)at;
+        if (stop > n) stop = n;
+        if (!block_locked(m, &y, b)) continue;
+        memset(mask + j, 1, stop - j);
+        writable -= stop - j;
     }
     if (writable) {
-        struct change d = {.c = writable, .at = y.user + (unsigned)at, .kind = 4, .from = words, .mask = mask};
-        run(m, y.work, &d, (unsigned)count, power);
+        struct change d = {.c = writable, .at = y.user + (unsigned)at, .kind = 4, .from = words, .mask = writable < n ? mask : 0};
+        run(m, y.work, &d, n, power);
         if (power < 3 * (size_t)writable + 2) {
             out->stores = power;
             *s = off;

@@ -1,6 +1,6 @@
 #!/usr/bin/env python3
 """The instructions that each call of docs/SPEED.md executes, library over rivals: the same in every run. Counted by valgrind on x86-64,
-elsewhere by the kit's emulator. Needs target/c/speed (tests/speed builds it)."""
+elsewhere by the kit's emulator. Needs target/c/speed-0 (tests/speed builds it)."""
 import glob
 import os
 import re
@@ -11,11 +11,11 @@ import sys
 os.chdir(os.path.join(os.path.dirname(os.path.abspath(__file__)), ".."))
 kit = os.path.dirname(os.path.dirname(subprocess.check_output(["rt", "doc"], text=True).strip()))
 tools = os.path.join(kit, "on", os.uname().machine, "toolchain")
-program = [tools + "/lib/ld-linux-x86-64.so.2", "--library-path", tools + "/lib", "target/c/speed"]
+program = [tools + "/lib/ld-linux-x86-64.so.2", "--library-path", tools + "/lib", "target/c/speed-0"]
 emulator = os.path.join(tools, "bin", "qemu-x86_64")
 valgrind = shutil.which("valgrind")
-if not os.access("target/c/speed", os.X_OK):
-    sys.exit("instructions: run tests/speed first, it builds target/c/speed")
+if not os.access("target/c/speed-0", os.X_OK):
+    sys.exit("instructions: run tests/speed first, it builds target/c/speed-0")
 if not os.access(emulator, os.X_OK) and not valgrind:
     sys.exit("instructions: neither the kit's emulator nor valgrind is here to count them")
 

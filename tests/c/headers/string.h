@@ -4,3 +4,4 @@
 void *memset(void *, int, size_t);
 void *memcpy(void *, const void *, size_t);
 int memcmp(const void *, const void *, size_t);
+int strcmp(const char *, const char *);
