@@ -4,7 +4,7 @@
 #include "swellbinnacle.h"
 
 #define IMAGE_BYTES 156
-#define PLENTY ((size_t)1 << 20)
+#define PLENTY ((size_t)1 << 20) /* on a tag: the word stores that the charge lasts, and no more */
 
 static uint8_t image[IMAGE_BYTES]; /* on a tag: the FRAM */
 static uint8_t room[8197];         /* holds any reply */
@@ -28,7 +28,7 @@ static int on_admission(uint16_t number) {
 static size_t on_frame(const uint8_t *frame, size_t bits, uint16_t random, size_t stores) {
     struct tag_outcome o = tag_frame(session, image, IMAGE_BYTES, bits, frame, (bits + 7) / 8, random, room, sizeof room, stores);
     session = o.session;
-    printf("frame %02x: answer %d, %d bits, %d stores, state %d\n", frame[0], o.answer, (int)o.reply, (int)o.stores, session.state);
+    printf("frame %02x: answer %d, %d bits, %d stores, state %d\n", bits < 8 ? 0 : frame[0], o.answer, (int)o.reply, (int)o.stores, session.state);
     return o.reply;
 }
 

@@ -3,10 +3,13 @@
    Every call has an answer for any numbers and any bytes. What C must keep, in every call:
    - each pointer is valid for the bytes counted after it, and not null, even where the count is 0;
    - image, frame, words and room of one call do not overlap;
-   - nothing else touches them until the call returns.
-   The sizes fit a size_t; the library allocates nothing and keeps nothing between calls.
+   - nothing else touches them until the call returns;
+   - `stores`, where a call takes it, is no more than the word stores that the power will last. The call makes at most so many, the first of
+     its list, and stops. Of a power that fails within a call that was told it would last, nothing is promised.
+   The library allocates nothing, keeps nothing between calls and links nothing but memset.
 
-   Answers, by number (RULES 5). "Everything stays": image, session and room are as before.
+   Answers, by number (RULES 5). "Everything stays": image, session and room are as before. A record that is no session's is Off, and comes
+   back as Off, all 0.
       0 done
       1 the image is under 32 bytes                                     everything stays
       2 its header is wrong, or its length is not the image's           everything stays
@@ -34,7 +37,7 @@ enum { TAG_OFF, TAG_ARBITRATE, TAG_ACKNOWLEDGED, TAG_OPEN, TAG_SECURED, TAG_KILL
 /* tag_session.half */
 enum { TAG_NO_HALF, TAG_ACCESS_HALF, TAG_KILL_HALF };
 
-/* A session. Keep it from one call to the next; all bytes 0 is Off. A record that no call hands back, as with an unknown state or a
+/* A session. Keep it from one call to the next; all bytes 0 is Off. A record that no session is written as, as with an unknown state or a
    number where none belongs, is answered as Off. */
 struct tag_session {
     uint8_t state;     /* TAG_OFF .. */
@@ -48,7 +51,7 @@ struct tag_session {
     uint16_t upper;    /* the half that waits, uncovered; 0 where there is none */
 };
 
-/* What a call hands back. */
+/* What a call hands back. Padding is not set: compare fields, not bytes. */
 struct tag_outcome {
     uint8_t answer;             /* 0 to 13 */
     uint8_t value;              /* tag_register: the register, 0 to 3; else 0 */
@@ -63,7 +66,7 @@ struct tag_place {
     uint16_t words;
 };
 
-/* What the image check hands back. Where the answer is not 0, all else is 0. */
+/* What the image check hands back. Where the answer is not 0, all other fields are 0. */
 struct tag_sheet {
     uint8_t answer; /* 0 to 3 */
     uint16_t block; /* the block size in words */
@@ -91,7 +94,8 @@ struct tag_outcome tag_admit(struct tag_session session, uint16_t number);
 struct tag_outcome tag_frame(struct tag_session session, uint8_t *image, size_t image_bytes, size_t bits, const uint8_t *frame,
                              size_t frame_bytes, uint16_t fresh, uint8_t *room, size_t room_bytes, size_t stores);
 
-/* Asks for the SPI port. Answers 0, 5, 6; while it is held, frames and admissions are answered 6. */
+/* Asks for the SPI port: granted unless it is held, or the state is Open or Secured. Answers 0, 5, 6. While it is held, frames and admissions
+   are answered 6. */
 struct tag_outcome tag_ask(struct tag_session session);
 
 /* Gives the port back. Answers 0, 5, 6. */
@@ -100,16 +104,18 @@ struct tag_outcome tag_release(struct tag_session session);
 /* Reads the error register into `value`, and clears it. Answers 0, 5, 6. */
 struct tag_outcome tag_register(struct tag_session session);
 
-/* Reads `count` words of USER from word `at` on into the room, high byte first. The image is only read. Answers 0, 1, 2, 3, 4, 5, 6, 13. */
+/* Reads `count` words of USER from word `at` on into the room, high byte first; in Killed zeros, which sets register bit 0. The port must be
+   held. The image is only read. Answers 0, 1, 2, 3, 4, 5, 6, 13. */
 struct tag_outcome tag_read(struct tag_session session, const uint8_t *image, size_t image_bytes, size_t at, size_t count, uint8_t *room,
                             size_t room_bytes);
 
 /* Writes the words, two bytes each, high byte first, to USER from word `at` on, as one change, with power for `stores` word stores. Words that
-   may not be written are left out, and set register bit 1. Answers 0, 1, 2, 3, 5, 6, 11, 13. */
+   may not be written are left out, and set register bit 1: those of permalocked blocks, and all of them while there is an access password or
+   USER's pwd bit is set. In Killed nothing is stored, and register bit 0 is set instead. The port must be held. Answers 0, 1, 2, 3, 5, 6, 11, 13. */
 struct tag_outcome tag_write(struct tag_session session, uint8_t *image, size_t image_bytes, size_t at, const uint8_t *words,
                              size_t words_bytes, size_t stores);
 
-/* The layout that the library was compiled for. */
+/* The layout that the library was compiled for: x86-64, in C11. */
 _Static_assert(sizeof(size_t) == 8, "size_t");
 _Static_assert(sizeof(struct tag_session) == 12 && _Alignof(struct tag_session) == 2, "tag_session");
 _Static_assert(offsetof(struct tag_session, state) == 0 && offsetof(struct tag_session, held) == 1, "state, held");
