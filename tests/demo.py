@@ -1,7 +1,7 @@
 #!/usr/bin/env python3
 """Writes what the program demo must write: its story told by the model, with frames from build.py.
 
-The column of stores is taken from the list of stores that the model made, not from their number.
+The column of stores and the torn words are taken from the list of stores that the model made, not from their number.
 """
 
 import build
@@ -12,22 +12,31 @@ NEW = [2, 3, 5, 12, 72, 0x1A25, 0]
 ADMISSION = 0x1234
 HANDLE = 0xA5C3
 ENOUGH = build.ENOUGH
+HIGH, LOW = 0, 1
 
 HEADING = """\
 A gate writes a new loan entry over the old one by BlockWrite: seven words, 23 stores on the tag.
-The power is cut after k of them. The bank is what the cut leaves in USER itself; then the reader
-powers up, and its layout engine reads the entry through the port.
+The power is cut after k of them, or inside the next one. A line without k is such a torn store: its
+high byte is made and its low byte is not, and the torn word is shown as it stands. The low byte
+alone is tried as well, and has a line where it leads the engine to another entry. The bank is what
+the cut leaves in USER itself; then the reader powers up, and its layout engine reads the entry
+through the port.
 
 old entry  %s
 new entry  %s
 
- k  stores made      pending  bank   the engine reads                    verdict
+ k  stores made      torn  pending  bank   the engine reads                    verdict
 """
 
 
 # Words as the lines show them.
 def shown(words):
     return " ".join("%04x" % w for w in words)
+
+
+# The worked image.
+def start():
+    return bytearray(build.Image().bytes())
 
 
 # The radio frame of these bits, with power for s stores.
@@ -80,28 +89,59 @@ def seen(words):
 VERDICTS = {"old": "old entry, whole", "new": "new entry, whole", "mixed": "MIXED"}
 
 
-# One cut: its line, and what the engine sees.
-def cut(k):
-    image = bytearray(build.Image().bytes())
-    layout = model.check_image(image)
-    made = gate(image, k)
+# The line of an image that a cut left, and what the engine sees.
+def line(k, stores, torn, image, layout):
     bank = [model.section_word(image, layout, "USER", n) for n in range(len(NEW))]
     pending = model.pending_count(image, layout)
     words = engine(image)
-    line = "%2d  %-15s  %7d  %-5s  %s  %s" % (
-        k, told(layout, made), pending, seen(bank), shown(words), VERDICTS[seen(words)])
-    return line, seen(words)
+    text = "%2s  %-15s  %4s  %7d  %-5s  %s  %s" % (
+        k, stores, torn, pending, seen(bank), shown(words), VERDICTS[seen(words)])
+    return text, seen(words)
+
+
+# The cut after k stores.
+def whole(k):
+    image = start()
+    layout = model.check_image(image)
+    return line(k, told(layout, gate(image, k)), "", image, layout)
+
+
+# The cut after k stores and one byte of the next.
+def torn(k, half):
+    image = start()
+    layout = model.check_image(image)
+    offset, value = gate(start(), k + 1)[k]
+    gate(image, k)
+    image[2 * offset + half] = value.to_bytes(2, "big")[half]
+    byte = "%s byte of %2d" % ("low" if half else "high", k + 1)
+    return line("", byte, "%04x" % model.word(image, offset), image, layout)
+
+
+# The last lines.
+def total(name, sights):
+    print("%d cuts %s: %d old, %d new, %d mixed" % (
+        len(sights), name, *(sights.count(sight) for sight in ("old", "new", "mixed"))))
 
 
 def main():
     assert build.Image().user[:7] == OLD
     print(HEADING % (shown(OLD), shown(NEW)), end="")
-    cuts = [cut(k) for k in range(3 * len(NEW) + 3)]
-    for line, _ in cuts:
-        print(line)
-    sights = [sight for _, sight in cuts]
-    print("\n%d cuts: %d old, %d new, %d mixed" % (
-        len(cuts), sights.count("old"), sights.count("new"), sights.count("mixed")))
+    stores = len(gate(start(), ENOUGH))
+    between, inside = [], []
+    for k in range(stores + 1):
+        text, sight = whole(k)
+        print(text)
+        between.append(sight)
+        if k == stores:
+            break
+        (high, after_high), (low, after_low) = torn(k, HIGH), torn(k, LOW)
+        print(high)
+        if after_low != after_high:
+            print(low)
+        inside += [after_high, after_low]
+    print()
+    total("between stores", between)
+    total("inside a store", inside)
 
 
 if __name__ == "__main__":
