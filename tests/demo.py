@@ -16,11 +16,11 @@ HIGH, LOW = 0, 1
 
 HEADING = """\
 A gate writes a new loan entry over the old one by BlockWrite: seven words, 23 stores on the tag.
-The power is cut after k of them, or inside the next one. A line without k is such a torn store: its
-high byte is made and its low byte is not, and the torn word is shown as it stands. The low byte
-alone is tried as well, and has a line where it leads the engine to another entry. The bank is what
-the cut leaves in USER itself; then the reader powers up, and its layout engine reads the entry
-through the port.
+The power is cut after k of them, or inside the next one. A line without k is such a torn store:
+its high byte is made and its low byte is not, and the torn word is shown as it stands. The low
+byte alone is tried as well, and has a line where it leads the engine to another entry. The bank is
+what the cut leaves in USER itself; then the reader powers up, and its layout engine reads the
+entry through the port.
 
 old entry  %s
 new entry  %s

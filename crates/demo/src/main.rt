@@ -1,12 +1,28 @@
-// Plays how a gate writes a loan entry and the power is cut: a line for each number of stores made before the cut (RULES 8.4).
+// Plays how a gate writes a loan entry and the power is cut: a line for each number of stores made before the cut, and for each store torn by it (RULES 8.4).
+ghost use Prim.Native.Nat.{_<_};
+
 mod playing;
 mod showing;
 
+use playing::Half;
 use playing::Seen;
+use showing::Sum;
 
 // How a cut went: what the engine saw, or an answer that the story doesn't have.
 enum Played {
     Saw(Seen),
+    Failed,
+}
+
+// How the gate's write went: the stores made, or such an answer.
+enum Written {
+    Made(usize),
+    Failed,
+}
+
+// How the cuts inside one store went: the sum with them, or such an answer.
+enum Summed {
+    To(Sum),
     Failed,
 }
 
@@ -15,8 +31,20 @@ fn expected(k: usize) -> u8 {
     if k < 23 { 11 } else { 0 }
 }
 
-// The reader powers up, and the engine's words end the line.
-fn after_cut(k: usize, image: &mut [u8; 156]) -> Played {
+// The gate's write on the worked image, with power for k stores.
+fn gate(k: usize, image: &mut [u8; 156]) -> Written {
+    playing::lay(image);
+    let written = playing::write(image, k);
+    let answer = written.answer;
+    if tag::number(answer) != expected(k) {
+        showing::failure(k, b"the gate's BlockWrite", tag::number(answer));
+        return Written::Failed;
+    }
+    Written::Made(written.stores)
+}
+
+// The reader powers up, and the engine's words end the line, if there is one.
+fn after_cut(k: usize, image: &mut [u8; 156], shown: bool) -> Played {
     let mut room = [0u8; 14];
     let read = playing::read(image, &mut room);
     let answer = read.answer;
@@ -26,36 +54,87 @@ fn after_cut(k: usize, image: &mut [u8; 156]) -> Played {
     }
     let words = playing::entry(&room);
     let seen = playing::judged(&words);
-    showing::engine(&words, seen);
+    if shown {
+        showing::engine(&words, seen);
+    }
     Played::Saw(seen)
 }
 
-// One cut from the worked image on.
-fn play(k: usize) -> Played {
+// The cut after k stores.
+fn between(k: usize) -> Played {
     let mut image = [0u8; 156];
-    playing::lay(&mut image);
-    let written = playing::write(&mut image, k);
-    let answer = written.answer;
-    if tag::number(answer) != expected(k) {
-        showing::failure(k, b"the gate's BlockWrite", tag::number(answer));
+    let Written::Made(stores) = gate(k, &mut image) else {
         return Played::Failed;
-    }
-    showing::cut(k, written.stores);
+    };
+    showing::cut(k, stores);
     showing::bank(playing::pending(&image), playing::bank(&image));
-    after_cut(k, &mut image)
+    after_cut(k, &mut image, true)
 }
 
-// The sum stands only under cuts that all went as told.
+// The cut after k stores and one byte of the next.
+fn inside(k: usize, half: Half, shown: bool) -> Played
+    requires { ⌜ k < 23 ⌝ }
+{
+    let mut image = [0u8; 156];
+    let Written::Made(_) = gate(k, &mut image) else {
+        return Played::Failed;
+    };
+    let mut further = [0u8; 156];
+    let Written::Made(_) = gate(k + 1, &mut further) else {
+        return Played::Failed;
+    };
+    playing::tear(&mut image, &further, k, half);
+    if shown {
+        showing::torn(k + 1, half, playing::torn(&image, k));
+        showing::bank(playing::pending(&image), playing::bank(&image));
+    }
+    after_cut(k, &mut image, shown)
+}
+
+// The cut after the low byte alone has a line where the engine sees another entry than after the high byte alone.
+fn low_alone(k: usize, high: Seen) -> Played
+    requires { ⌜ k < 23 ⌝ }
+{
+    let Played::Saw(low) = inside(k, Half::Low, false) else {
+        return Played::Failed;
+    };
+    if playing::differ(low, high) {
+        return inside(k, Half::Low, true);
+    }
+    Played::Saw(low)
+}
+
+// Both cuts inside store k + 1, and the sum with them.
+fn torn(k: usize, sum: Sum) -> Summed
+    requires { ⌜ k < 23 ⌝ }
+{
+    let Played::Saw(high) = inside(k, Half::High, true) else {
+        return Summed::Failed;
+    };
+    let Played::Saw(low) = low_alone(k, high) else {
+        return Summed::Failed;
+    };
+    Summed::To(showing::counted(showing::counted(sum, high), low))
+}
+
+// The sums stand only under cuts that all went as told.
 fn main() {
     showing::heading();
-    let mut sum = showing::begin();
+    let mut stores = showing::begin();
+    let mut bytes = showing::begin();
     let mut k = 0;
     while k < 24 {
-        let Played::Saw(seen) = play(k) else {
+        let Played::Saw(seen) = between(k) else {
             return;
         };
-        sum = showing::counted(sum, seen);
+        stores = showing::counted(stores, seen);
+        if k < 23 {
+            let Summed::To(sum) = torn(k, bytes) else {
+                return;
+            };
+            bytes = sum;
+        }
         k += 1;
     }
-    showing::total(k, sum);
+    showing::totals(stores, bytes);
 }

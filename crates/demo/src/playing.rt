@@ -19,6 +19,12 @@ pub enum Seen {
     Mixed,
 }
 
+// The two bytes of a word; the high one stands first.
+pub enum Half {
+    High,
+    Low,
+}
+
 fn put(image: &mut [u8; 156], at: usize, words: &[u16])
     requires { ⌜ at + length (now words) < 65536 ⌝ }
 {
@@ -79,6 +85,18 @@ pub fn judged(words: &[u16; 7]) -> Seen {
     Seen::Mixed
 }
 
+fn code(seen: Seen) -> u8 {
+    match seen {
+        Seen::Old => 0,
+        Seen::New => 1,
+        Seen::Mixed => 2,
+    }
+}
+
+pub fn differ(a: Seen, b: Seen) -> bool {
+    code(a) != code(b)
+}
+
 // The pending count as it stands in WORK.
 pub fn pending(image: &[u8; 156]) -> u16 {
     bits::word(image, WORK)
@@ -104,6 +122,36 @@ pub fn write(image: &mut [u8; 156], k: usize) -> Outcome {
     let opened = known.frame(image, request, 40, 0xa5c3, &mut room, 0);
     let linked = opened.session;
     linked.frame(image, order, 170, 0, &mut room, k)
+}
+
+// The word that the write's store k + 1 goes to: 14 of the pairs, the count, 7 of the entry, the count (RULES 2.2).
+fn next(k: usize) -> usize
+    ensures { λ r. ⌜ r < 78 ⌝ }
+{
+    if k < 14 {
+        return WORK + 1 + k;
+    }
+    if k == 14 {
+        return WORK;
+    }
+    if k < 22 {
+        return USER + (k - 15);
+    }
+    WORK
+}
+
+// Tears store k + 1: of an image with power for k stores, one byte becomes as with power for k + 1.
+pub fn tear(image: &mut [u8; 156], further: &[u8; 156], k: usize, half: Half) {
+    let j = match half {
+        Half::High => 2 * next(k),
+        Half::Low => 2 * next(k) + 1,
+    };
+    bits::store_byte(image, j, bits::byte(further, j));
+}
+
+// The word that store k + 1 goes to, as it stands.
+pub fn torn(image: &[u8; 156], k: usize) -> u16 {
+    bits::word(image, next(k))
 }
 
 // The reader powers up, and the engine reads the entry into the room; the last answer tells here too.

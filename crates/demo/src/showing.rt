@@ -1,10 +1,12 @@
 // What is written; each text is as wide as its column.
 use crate::playing;
+use crate::playing::Half;
 use crate::playing::Seen;
 use libc::STDOUT_FILENO;
 
 // How often the engine saw which entry.
 pub struct Sum {
+    pub cuts: u64,
     pub old: u64,
     pub new: u64,
     pub mixed: u64,
@@ -45,15 +47,26 @@ pub fn heading() {
         b"A gate writes a new loan entry over the old one by BlockWrite: seven words, 23 stores on the tag.\n",
     );
     text(
-        b"The power is cut after k of them. The bank is what the cut leaves in USER itself; then the reader\n",
+        b"The power is cut after k of them, or inside the next one. A line without k is such a torn store:\n",
     );
-    text(b"powers up, and its layout engine reads the entry through the port.\n\nold entry ");
+    text(
+        b"its high byte is made and its low byte is not, and the torn word is shown as it stands. The low\n",
+    );
+    text(
+        b"byte alone is tried as well, and has a line where it leads the engine to another entry. The bank is\n",
+    );
+    text(
+        b"what the cut leaves in USER itself; then the reader powers up, and its layout engine reads the\n",
+    );
+    text(b"entry through the port.\n\nold entry ");
     let old = playing::OLD;
     entry(&old);
     text(b"\nnew entry ");
     let new = playing::NEW;
     entry(&new);
-    text(b"\n\n k  stores made      pending  bank   the engine reads                    verdict\n");
+    text(
+        b"\n\n k  stores made      torn  pending  bank   the engine reads                    verdict\n",
+    );
 }
 
 // How far the first 22 of a write's 23 stores have come: 14 stage its pairs, one announces them, 7 are the words themselves.
@@ -73,10 +86,8 @@ fn on_the_way(made: usize) {
     text(b" of 7   ");
 }
 
-// The cut and the stores made before it.
-pub fn cut(k: usize, made: usize) {
-    two(k);
-    text(b"  ");
+// Up to how many stores a cut lets through.
+fn reached(made: usize) {
     if made == 0 {
         text(b"nothing        ");
         return;
@@ -86,6 +97,28 @@ pub fn cut(k: usize, made: usize) {
         return;
     }
     on_the_way(made);
+}
+
+// A cut between stores, and the stores made before it.
+pub fn cut(k: usize, made: usize) {
+    two(k);
+    text(b"  ");
+    reached(made);
+    text(b"      ");
+}
+
+// A cut inside a store: the byte made of it, and its word.
+pub fn torn(store: usize, half: Half, w: u16) {
+    match half {
+        Half::High => text(b"    high byte of "),
+        Half::Low => text(b"    low byte of "),
+    }
+    two(store);
+    match half {
+        Half::High => text(b" "),
+        Half::Low => text(b"  "),
+    }
+    word(w);
 }
 
 // The pending count, and what stands in USER.
@@ -122,6 +155,7 @@ pub fn failure(k: usize, step: &[u8], answer: u8) {
 
 pub fn begin() -> Sum {
     Sum {
+        cuts: 0,
         old: 0,
         new: 0,
         mixed: 0,
@@ -138,16 +172,19 @@ fn one_more(n: u64) -> u64 {
 pub fn counted(s: Sum, seen: Seen) -> Sum {
     match seen {
         Seen::Old => Sum {
+            cuts: one_more(s.cuts),
             old: one_more(s.old),
             new: s.new,
             mixed: s.mixed,
         },
         Seen::New => Sum {
+            cuts: one_more(s.cuts),
             old: s.old,
             new: one_more(s.new),
             mixed: s.mixed,
         },
         Seen::Mixed => Sum {
+            cuts: one_more(s.cuts),
             old: s.old,
             new: s.new,
             mixed: one_more(s.mixed),
@@ -155,15 +192,23 @@ pub fn counted(s: Sum, seen: Seen) -> Sum {
     }
 }
 
-// The last line.
-pub fn total(cuts: usize, s: Sum) {
-    text(b"\n");
-    number(cuts as u64);
-    text(b" cuts: ");
+// The sum of the cuts of one kind.
+fn total(kind: &[u8], s: Sum) {
+    number(s.cuts);
+    text(b" cuts ");
+    text(kind);
+    text(b": ");
     number(s.old);
     text(b" old, ");
     number(s.new);
     text(b" new, ");
     number(s.mixed);
     text(b" mixed\n");
+}
+
+// The last lines.
+pub fn totals(stores: Sum, bytes: Sum) {
+    text(b"\n");
+    total(b"between stores", stores);
+    total(b"inside a store", bytes);
 }

@@ -5,14 +5,14 @@ use Rattle.demo.proofs.main.Statement.{statement}
 use Rattle.demo.proofs.main.Tie as tie
 
 abbrev Inv-loop : tie.InvT-loop
-Inv-loop sum₀ k₀ sum k = k ≤ 24
+Inv-loop stores₀ bytes₀ k₀ stores bytes k = k ≤ 24
 
 abbrev μ-loop : tie.MeasureT-loop
-μ-loop sum₀ k₀ sum k = 24 - k
+μ-loop stores₀ bytes₀ k₀ stores bytes k = 24 - k
 
 pub main-spec : {M : Type 1} → statement M
 main-spec =
     tie.close
     (tie.spec Inv-loop μ-loop (search needs) (search needs) (search needs) (search needs) (search needs)
     (search needs) (search needs) (search needs) (search needs) (search needs) (search needs) (search needs)
-    (search needs))
+    (search needs) (search needs) (search needs) (search needs) (search needs) (search needs))
