@@ -1,7 +1,8 @@
 #!/usr/bin/env python3
 """Writes what the program demo must write: its story told by the model, with frames from build.py.
 
-The column of stores and the torn words are taken from the list of stores that the model made, not from their number.
+The column of stores is taken from the list of stores that the model made, not from their number,
+and so is the store that a cut tears.
 """
 
 import build
