@@ -124,7 +124,7 @@ pub fn write(image: &mut [u8; 156], k: usize) -> Outcome {
     linked.frame(image, order, 170, 0, &mut room, k)
 }
 
-// The word that the write's store k + 1 goes to: 14 of the pairs, the count, 7 of the entry, the count (RULES 2.2).
+// The word that the write's store k + 1 goes to: 14 words of pairs, the count, 7 words of USER, the count (RULES 2.1).
 fn next(k: usize) -> usize
     ensures { λ r. ⌜ r < 78 ⌝ }
 {

@@ -86,7 +86,7 @@ fn on_the_way(made: usize) {
     text(b" of 7   ");
 }
 
-// Up to how many stores a cut lets through.
+// How far the stores made have come.
 fn reached(made: usize) {
     if made == 0 {
         text(b"nothing        ");
