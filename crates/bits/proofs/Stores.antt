@@ -96,24 +96,6 @@ pub after-avoids : (m : List ℕ) (ss : List Store) (i : ℕ) → Avoids i ss �
 after-avoids m [] i a = refl
 after-avoids m (s ∷ ss) i a = after-avoids (withWord m (s .at) (s .value)) ss i (a .1) ∙ word-with-other m (s .at) (s .value) i (a .0)
 
--- some of the stores, and then all of them from the first: as all of them once
-last-again : (i d k : ℕ) (ss : List Store) → last i (last i d (take k ss)) ss ≡ last i d ss
-unfolding last
-last-again i d zero ss = refl
-last-again i d (suc k) [] = refl
-last-again i d (suc k) (s ∷ ss) = go (eqb i (s .at)) (last-again i d k ss)
-  where
-    go : (b : Bool) → last i (last i d (take k ss)) ss ≡ last i d ss → last i (cond b (s .value) (last i (cond b (s .value) d) (take k ss))) ss ≡ last i (cond b (s .value) d) ss
-    go true ih = refl
-    go false ih = ih
-
-pub after-again : (m : List ℕ) (k : ℕ) (ss : List Store) (i : ℕ) → In i m → wordAt (after (after m (take k ss)) ss) i ≡ wordAt (after m ss) i
-after-again m k ss i h =
-    word-after (after m (take k ss)) ss i (rw length-after h)
-    ∙ ap (λ (d : ℕ). last i d ss) (word-after m (take k ss) i h)
-    ∙ last-again i (wordAt m i) k ss
-    ∙ sym (word-after m ss i h)
-
 -- where each word below w satisfies a rule of its place, and each value stored too, each word does afterwards
 abbrev pub Fine : ℕ → (ℕ → ℕ → Type 0) → List ℕ → Type 0
 Fine w ok m = (i : ℕ) → i < w → ok i (wordAt m i)

@@ -1,17 +1,24 @@
 -- Laws of words: what a store changes, and what it leaves. Assumes nothing.
-use Prim.Native.Nat.{ℕ, _+_, _*_, _/_, _<_, _≤_}
+use Prim.Native.Nat.{ℕ, zero, suc, _+_, _*_, _/_, _<_, _≤_}
 use mathlib.Core.Path.{_≡_}
 use mathlib.Core.Logic.{_≢_}
-use mathlib.Core.List.{List}
+use mathlib.Core.Bool.{true}
+use mathlib.Core.List.{List, [], _∷_}
 use native.Mathlib.Nat.{div-add-mod'}
 use native.Mathlib.Omega.{arith}
+use lib.Dec.{ltb, lit<}
+use lib.Pow.{areBytes}
 use lib.ListN.{length, getD, set, take, drop, length-set}
 use lib.Seq.{getD-set-same, getD-set-other, drop-set-add, take-set-le}
-use Rattle.bits.specs.Words.{wordAt, withWord}
+use borrow.Author.Tests.{ltb-true}
+use Rattle.bits.specs.Words.{Bytes, wordAt, withWord}
+use Rattle.bits.proofs.Below.{and-left, and-right}
 
-pub word-lt : (m : List ℕ) (i : ℕ) → ((j : ℕ) → getD m j 0 < 256) → wordAt m i < 65536
-unfolding wordAt
-word-lt m i h = omega (arith, h (2 * i), h (2 * i + 1))
+-- a list of bytes, computed
+pub are-bytes : (m : List ℕ) → areBytes m ≡ true → Bytes m
+are-bytes [] e j = lit< tt
+are-bytes (b ∷ m) e zero = ltb-true b 256 (and-left (ltb b 256) (areBytes m) e)
+are-bytes (b ∷ m) e (suc j) = are-bytes m (and-right (ltb b 256) (areBytes m) e) j
 
 pub length-with : (m : List ℕ) (i v : ℕ) → length (withWord m i v) ≡ length m
 unfolding withWord

@@ -1,7 +1,11 @@
 -- Words of 16 bits over a list of bytes, the most significant byte first (RULES 1.1). Assumes nothing.
-use Prim.Native.Nat.{ℕ, _+_, _*_, _/_, _%_}
+use Prim.Native.Nat.{ℕ, _+_, _*_, _/_, _%_, _<_}
 use mathlib.Core.List.{List, [], _∷_}
 use lib.ListN.{getD, set}
+
+-- each number of m is a byte
+abbrev pub Bytes : List ℕ → Type 0
+Bytes m = (j : ℕ) → getD m j 0 < 256
 
 -- word i of the bytes m
 unfoldable pub wordAt : List ℕ → ℕ → ℕ

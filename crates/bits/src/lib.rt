@@ -3,7 +3,7 @@ ghost use mathlib.Core.Path.{_≡_};
 ghost use mathlib.Core.Bool.{_&&_, _||_};
 ghost use Prim.Native.Nat.{_+_, _-_, _*_, _^_, _≤_, _<_};
 ghost use lib.ListN.{length, getD, set};
-ghost use Rattle.bits.specs.Words.{wordAt, withWord};
+ghost use Rattle.bits.specs.Words.{Bytes, wordAt, withWord};
 ghost use Rattle.bits.specs.Bits.{bitAt, fieldAt};
 ghost use Rattle.bits.specs.Steps.{windowAt};
 
@@ -27,6 +27,15 @@ fn wide(b: u8) -> u16
     ensures { λ r. ⌜ (r ≡ b) × (r < 256) ⌝ }
 {
     b as u16
+}
+
+// Whatever is lent consists of bytes, and so does every image that a call is handed (RULES D3).
+pub fn lent(bytes: &[u8])
+    ensures { λ _. ⌜ Bytes (now (bytes .entry)) ⌝ }
+{
+    if 0 < bytes.len() {
+        wide(bytes[0]);
+    }
 }
 
 // Word i of bytes that have it.
