@@ -1,7 +1,7 @@
 -- The stores of a change and of power-up (RULES 2.1 to 2.6). Assumes nothing.
 use Prim.Native.Nat.{ℕ, _+_}
 use mathlib.Core.List.{List, [], _∷_, _++_}
-use lib.ListN.{length, take}
+use lib.ListN.{length}
 use Rattle.bits.specs.Words.{Store, store, after}
 use Rattle.bits.specs.Bits.{wordsBits}
 use Rattle.crc.specs.Crc.{crcOf}
@@ -35,13 +35,6 @@ settling y m = finished (y .work .at) (pending y m)
 unfoldable pub powerStores : Layout → List ℕ → List Store
 powerStores y m = settling y m ++ (store (y .epc .at) (epcCrc y (after m (settling y m))) ∷ [])
 
--- 2.4: the image after the first k stores of a power-up; after power-ups each cut so; and after a whole one
-abbrev pub cutPowerUp : ℕ → List ℕ → List ℕ
-cutPowerUp k m = after m (take k (powerStores (layoutOf m) m))
-
-abbrev pub cutPowerUps : List ℕ → List ℕ → List ℕ
-cutPowerUps [] m = m
-cutPowerUps (k ∷ ks) m = cutPowerUps ks (cutPowerUp k m)
-
+-- the image after a whole power-up
 abbrev pub powerUp : List ℕ → List ℕ
 powerUp m = after m (powerStores (layoutOf m) m)

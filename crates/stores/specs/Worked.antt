@@ -4,7 +4,8 @@ use mathlib.Core.Path.{_≡_, refl}
 use mathlib.Core.List.{List, [], _∷_}
 use lib.Dec.{lit<, lit≤}
 use lib.ListN.{take}
-use Rattle.bits.specs.Words.{wordAt, withWord, Store, store, after}
+use Rattle.bits.specs.Words.{Bytes, wordAt, withWord, Store, store, after}
+use Rattle.bits.proofs.Words.{are-bytes}
 use Rattle.image.specs.Layout.{blocksIn}
 use Rattle.image.specs.Content.{countIn, rulesHold}
 use Rattle.image.specs.Worked.{worked, workedLayout, cases}
@@ -17,7 +18,11 @@ use Rattle.stores.specs.Cuts.{Change}
 abbrev pub oneWord : List Store
 oneWord = store 31 0xABCD ∷ []
 
--- the worked image is good, nothing is pending, and the word is a change
+-- the worked image consists of bytes and is good, nothing is pending, and the word is a change
+pub worked-bytes : Bytes worked
+unfolding worked
+worked-bytes = are-bytes worked refl
+
 pub worked-good : Good workedLayout worked
 worked-good = check-good worked workedLayout (cases .found)
 
