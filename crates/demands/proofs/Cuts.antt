@@ -1,6 +1,6 @@
 -- Demand 3 over the public operations: a command's cuts are cuts of its change, and power-ups those of `stores`. Assumes nothing.
-use Prim.Native.Nat.{ℕ, _+_, _*_, _≤_, _<_}
-use mathlib.Core.Path.{_≡_, refl, sym, ap, _∙_, subst}
+use Prim.Native.Nat.{ℕ, suc, _+_, _*_, _≤_, _<_}
+use mathlib.Core.Path.{_≡_, refl, sym, ap, ap₂, _∙_, subst}
 use mathlib.Core.Logic.{_⊎_, inl, inr}
 use mathlib.Core.Bool.{Bool, cond}
 use mathlib.Core.List.{List, [], _∷_}
@@ -8,7 +8,7 @@ use native.Mathlib.Omega.{arith}
 use native.Mathlib.Decide.{decLt}
 use lib.Dec.{ltb}
 use lib.ListN.{length, take}
-use lib.Seq.{take-all}
+use lib.Seq.{take-all, set-getD}
 use borrow.Author.Tests.{lt-ltb, le-ltb, eq-eqb, ne-eqb}
 use Rattle.bits.specs.Words.{wordAt, Store, after}
 use Rattle.image.specs.declared.Layout.{Layout}
@@ -17,17 +17,17 @@ use Rattle.image.specs.Content.{countIn, pending}
 use Rattle.image.specs.Check.{checkOf, good}
 use Rattle.image.specs.Rules.{Good}
 use Rattle.image.proofs.Answers.{check-good, good-check, check-0}
-use Rattle.stores.specs.Stores.{changeStores, epcCrc, powerStores, cutPowerUp, cutPowerUps, powerUp}
-use Rattle.stores.specs.Cuts.{cutImage, CutLaws}
+use Rattle.stores.specs.Stores.{changeStores, epcCrc, powerStores, powerUp}
+use Rattle.stores.specs.Cuts.{Cut, withByte, cutAfter, cutPowerUp, cutPowerUps, cutImage, reaches, CutLaws}
 use Rattle.stores.proofs.Changes.{change-needs, power-idle, power-some}
 use Rattle.stores.proofs.Sane.{crc-same, good-sane}
-use Rattle.stores.proofs.Cuts.{cuts, power-cut-good, power-word, power-settles}
+use Rattle.stores.proofs.Cuts.{cuts, power-good, power-word, power-settles}
 use Rattle.tag.specs.Session.{offSession, newSession}
 use Rattle.tag.specs.Result.{Result}
 use Rattle.tag.specs.Power.{poweredTo, firstIn, started, powerUpOf}
-use Rattle.demands.specs.Calls.{Tag, answerOf}
+use Rattle.demands.specs.Calls.{Tag, answerOf, torn}
 use Rattle.demands.specs.Commands.{Start}
-use Rattle.demands.specs.Demands.{Storing, told, powerUps, Unbroken, Demand3}
+use Rattle.demands.specs.Demands.{Storing, byRadio, byPort, told, Stores, powerUps, Unbroken, Demand3}
 use Rattle.demands.proofs.Plans.{plan-change}
 use Rattle.demands.proofs.Rows.{Refused, Acting, wordsOf, acts}
 
@@ -50,7 +50,7 @@ module _ (y : Layout) (m : List ℕ) (g : Good y m) where
   unfolding started stores lost made
   power-ends s = power-started s
 
-  pub power-image : (s : ℕ) → powerUpOf m s .image ≡ cutPowerUp s m
+  pub power-image : (s : ℕ) → powerUpOf m s .image ≡ after m (take s (powerStores (layoutOf m) m))
   unfolding stores lost made
   power-image s = ap (λ (r : Result). r .image) (power-ends s) ∙ go (decLt s (length stores))
     where
@@ -84,12 +84,18 @@ module _ (y : Layout) (m : List ℕ) (g : Good y m) where
       go (yes l) = omega (arith, power-some y m (λ z. omega (arith, l, z)), g .content 0 .count, g .header .pairs-most)
       go (no n) = let z : countIn y m ≡ 0 = omega arith in omega (arith, power-idle y m z)
 
-  pub power-cut-fine : (s : ℕ) → Good y (cutPowerUp s m)
-  power-cut-fine s = subst (λ (z : Layout). Good y (after m (take s (powerStores z m)))) (g .layout) (power-cut-good y m g s)
+-- a power-up that is cut is a cut of its stores; power-ups from an image from which every cut one leaves a good image
+pub power-torn : (y : Layout) (m : List ℕ) → Good y m → (f : Cut) → powerUps (f ∷ []) m ≡ cutPowerUp f m
+power-torn y m g f = ap₂ (withByte (f .byte)) (power-image y m g (suc (f .whole))) (power-image y m g (f .whole))
 
-pub powers-cut : (y : Layout) (ks m : List ℕ) → Good y m → powerUps ks m ≡ cutPowerUps ks m
+powers-cut : (y : Layout) (fs : List Cut) (m : List ℕ) → ((ds : List Cut) → Good y (cutPowerUps ds m)) → powerUps fs m ≡ cutPowerUps fs m
 powers-cut y [] m g = refl
-powers-cut y (k ∷ ks) m g = ap (powerUps ks) (power-image y m g k) ∙ powers-cut y ks (cutPowerUp k m) (power-cut-fine y m g k)
+powers-cut y (f ∷ fs) m g = ap (powerUps fs) (power-torn y m (g []) f) ∙ powers-cut y fs (cutPowerUp f m) (λ ds. g (f ∷ ds))
+
+-- a command's two images
+pub torn-told : (t : Tag) (c : Storing) (k j : ℕ) → torn t (told c k) j ≡ withByte j (answerOf t (told c (suc k)) .image) (answerOf t (told c k) .image)
+torn-told t (byRadio f bits fresh room) k j = refl
+torn-told t (byPort at d) k j = refl
 
 -- the words that 3n + 2 stores change are n
 count-of : (w n : ℕ) (ws : List Store) → length (changeStores w ws) ≡ 3 * n + 2 → length ws ≡ n
@@ -99,60 +105,76 @@ count-of w n (x ∷ xs) e =
     let z : 3 * length (x ∷ xs) + 2 ≡ 3 * n + 2 = sym (change-needs w (x ∷ xs) ∙ ap (λ (t : Bool). cond t 0 (3 * length (x ∷ xs) + 2)) (ne-eqb _ _ d)) ∙ e in
     omega arith
 
-module _ (y : Layout) (t : Tag) (c : Storing) (n enough : ℕ) (g : Good y (t .image)) (ws : List Store) (some : 1 ≤ n) (a : Acting y t c ws)
-    (e : answerOf t (told c enough) .number ≡ 0) (d : answerOf t (told c enough) .stores ≡ 3 * n + 2) where
-  whole : length (changeStores (y .work .at) ws) ≤ enough
-  whole = a .whole enough e
+module _ (y : Layout) (t : Tag) (c : Storing) (n enough : ℕ) (h : Stores y t c n enough) (ws : List Store) (a : Acting y t c ws) where
+  g : Good y (t .image)
+  g = check-good (t .image) y (h .idle .sound)
 
-  needs : length (changeStores (y .work .at) ws) ≡ 3 * n + 2
-  needs = let z = sym (a .stores enough) ∙ d in omega (arith, whole, z)
+  whole : length (changeStores (y .work .at) ws) ≤ enough
+  whole = a .whole enough (h .done)
+
+  pub needs : length (changeStores (y .work .at) ws) ≡ 3 * n + 2
+  needs = let z = sym (a .stores enough) ∙ h .stores in omega (arith, whole, z)
 
   words : length ws ≡ n
   words = count-of (y .work .at) n ws needs
 
   laws : CutLaws y (t .image) ws
-  laws = cuts y (t .image) ws g (a .idle) (plan-change y (t .image) g ws (a .idle) (a .plan) (omega (arith, words)))
+  laws = cuts y (t .image) ws (h .bytes) g (a .idle) (plan-change y (t .image) g ws (a .idle) (a .plan) (omega (arith, words, h .some)))
 
-  module _ (s : ℕ) (ks : List ℕ) where
-    image-of : powerUps ks (answerOf t (told c s) .image) ≡ cutImage y (t .image) ws s ks
-    image-of = ap (powerUps ks) (a .image s) ∙ powers-cut y ks (after (t .image) (take s (changeStores (y .work .at) ws))) (laws .good s [])
+  module _ (f : Cut) (fs : List Cut) where
+    left : List ℕ
+    left = powerUps fs (torn t (told c (f .whole)) (f .byte))
 
-    good-cut : Good y (powerUps ks (answerOf t (told c s) .image))
-    good-cut = subst (Good y) (sym image-of) (laws .good s ks)
+    left-image : left ≡ cutImage y (t .image) ws f fs
+    unfolding left
+    left-image =
+        ap (powerUps fs) (torn-told t c (f .whole) (f .byte) ∙ ap₂ (withByte (f .byte)) (a .image (suc (f .whole))) (a .image (f .whole)))
+        ∙ powers-cut y fs (cutAfter f (t .image) (changeStores (y .work .at) ws)) (laws .good f)
 
-    cut-word : (j i : ℕ) → powerUpOf (powerUps ks (answerOf t (told c s) .image)) j .number ≡ 0
-        → wordAt (powerUpOf (powerUps ks (answerOf t (told c s) .image)) j .image) i ≡ wordAt (powerUp (cutImage y (t .image) ws s ks)) i
-    cut-word j i z = ap (λ (x : List ℕ). wordAt x i) (power-whole y _ good-cut j z ∙ ap powerUp image-of)
+    left-good : Good y left
+    left-good = subst (Good y) (sym left-image) (laws .good f fs)
 
-  unbroken : (s : ℕ) (ks : List ℕ) → Unbroken y t c n enough s ks
-  unbroken s ks =
+    left-word : (j i : ℕ) → powerUpOf left j .number ≡ 0 → wordAt (powerUpOf left j .image) i ≡ wordAt (powerUp (cutImage y (t .image) ws f fs)) i
+    left-word j i z = ap (λ (x : List ℕ). wordAt x i) (power-whole y left left-good j z ∙ ap powerUp left-image)
+
+  -- the command done, as a cut behind its last store
+  done : answerOf t (told c enough) .image ≡ cutImage y (t .image) ws (record { whole = enough; byte = 0 }) []
+  done =
+      let all = changeStores (y .work .at) ws in
+      a .image enough
+      ∙ ap (after (t .image)) (take-all enough all whole ∙ sym (take-all (suc enough) all (omega (arith, whole))))
+      ∙ sym (set-getD (after (t .image) (take (suc enough) all)) 0 0)
+      ∙ ap (withByte 0 (after (t .image) (take (suc enough) all)))
+      (ap (after (t .image)) (take-all (suc enough) all (omega (arith, whole)) ∙ sym (take-all enough all whole)))
+
+  done-word : (k i : ℕ) → i < y .work .at → powerUpOf (answerOf t (told c enough) .image) k .number ≡ 0
+      → wordAt (powerUpOf (answerOf t (told c enough) .image) k .image) i ≡ wordAt (powerUp (after (t .image) ws)) i
+  done-word k i l z =
+      let d : Cut = record { whole = enough; byte = 0 } in
+      ap (λ (x : List ℕ). wordAt x i) (power-whole y _ (subst (Good y) (sym done) (laws .good d [])) k z ∙ ap powerUp done)
+      ∙ laws .new d [] (omega (arith, needs, words, whole)) i l
+
+  unbroken : (f : Cut) (fs : List Cut) → Unbroken y t c n enough (reaches y f) (powerUps fs (torn t (told c (f .whole)) (f .byte)))
+  unfolding left
+  unbroken f fs =
       record {
         old = λ l j k p q i b.
-            (let r = a .stores s in
-            cut-word s ks j i p
-            ∙ laws .old s ks (omega (arith, needs, words, l, r)) i b
-            ∙ sym (ap (λ (x : List ℕ). wordAt x i) (power-whole y (t .image) g k q)));
-        new = λ l j k p q i b.
-            (let r = a .stores s in
-            cut-word s ks j i p
-            ∙ laws .new s ks (omega (arith, needs, words, l, r)) i b
-            ∙ sym (cut-word enough [] k i q ∙ laws .new enough [] (omega (arith, needs, words, whole)) i b));
+            left-word f fs j i p ∙ laws .old f fs (omega (arith, words, l)) i b ∙ sym (ap (λ (x : List ℕ). wordAt x i) (power-whole y (t .image) g k q));
+        new = λ l j k p q i b. left-word f fs j i p ∙ laws .new f fs (omega (arith, words, l)) i b ∙ sym (done-word k i b q);
         starts = λ u l.
-            (let n = powerUps ks (answerOf t (told c s) .image) in
-            let few : length (powerStores (layoutOf n) n) ≤ u =
-            subst (λ (z : Layout). length (powerStores z n) ≤ u) (good-cut s ks .layout) (omega (arith, l, power-needs y n (good-cut s ks))) in
-            ap (λ (r : Result). r .number) (power-done y n (good-cut s ks) u few));
+            (let m = left f fs in
+            let few : length (powerStores (layoutOf m) m) ≤ u =
+            subst (λ (z : Layout). length (powerStores z m) ≤ u) (left-good f fs .layout) (omega (arith, l, power-needs y m (left-good f fs))) in
+            ap (λ (r : Result). r .number) (power-done y m (left-good f fs) u few));
       }
 
 pub demand-3 : Demand3
-demand-3 y t c n enough idle some e d s ks = go (acts y t c enough g)
+demand-3 y t c n enough h f fs = go (acts y t c enough (check-good (t .image) y (h .idle .sound)))
   where
-    g : Good y (t .image)
-    g = check-good (t .image) y (idle .sound)
-
-    go : Refused (t .image) (answerOf t (told c enough)) ⊎ Acting y t c (wordsOf t c) → Unbroken y t c n enough s ks
-    go (inl r) = absurd (omega (arith, e, r .1))
-    go (inr a) = unbroken y t c n enough g (wordsOf t c) some a e d s ks
+    go : Refused (t .image) (answerOf t (told c enough)) ⊎ Acting y t c (wordsOf t c)
+        → Unbroken y t c n enough (reaches y f) (powerUps fs (torn t (told c (f .whole)) (f .byte)))
+    go (inl r) = absurd (omega (arith, h .done, r .1))
+    go (inr a) = unbroken y t c n enough h (wordsOf t c) a f fs
 
 -- a whole power-up, for any good image
 pub started-so : (y : Layout) (m : List ℕ) → checkOf m ≡ good y → Start y m (after m (powerStores y m))
@@ -168,9 +190,7 @@ started-so y m e = subst (λ (z : Layout). Start z m (after m (powerStores z m))
     n = after m (powerStores (layoutOf m) m)
 
     whole : Good (layoutOf m) n
-    whole =
-        subst (λ (ss : List Store). Good (layoutOf m) (after m ss)) (take-all (length (powerStores (layoutOf m) m)) (powerStores (layoutOf m) m) (omega arith))
-        (power-cut-good (layoutOf m) m g (length (powerStores (layoutOf m) m)))
+    whole = power-good (layoutOf m) m g
 
     other : (i : ℕ) → i < layoutOf m .work .at → (i ≡ layoutOf m .epc .at → ⊥) → wordAt n i ≡ wordAt (after m (pending (layoutOf m) m)) i
     other i l d =

@@ -1,14 +1,18 @@
--- Any run: each call leaves a good image, keeps what is to be kept, and pending words only of a kind that keeps it. Assumes nothing.
-use Prim.Native.Nat.{ℕ, zero, suc, _+_, _-_, _*_, _/_, _%_, _^_, _≤_, _<_}
-use mathlib.Core.Path.{_≡_, refl, sym, ap, _∙_, subst}
-use mathlib.Core.Logic.{_⊎_, inl, inr, ⊎-elim}
+-- Any run: each call leaves a good image, keeps what is to be kept, and pending words only of a kind that keeps it; where a word is torn, each of its bits is
+-- the old one or the new one. Assumes nothing.
+use Prim.Native.Nat.{ℕ, suc, _+_, _-_, _*_, _/_, _%_, _^_, _≤_, _<_}
+use mathlib.Core.Path.{_≡_, refl, sym, ap, ap₂, _∙_, subst}
+use mathlib.Core.Logic.{_⊎_, inl, inr, ⊎-elim, ⊎-map}
 use mathlib.Core.List.{List, [], _∷_, _++_}
 use native.Mathlib.Nat.{le-div-iff-mul-le, div-mul-le-self}
 use native.Mathlib.Omega.{arith}
+use native.Mathlib.Decide.{decLt}
 use lib.Dec.{ltb}
-use lib.ListN.{length, take}
+use lib.ListN.{length}
+use lib.Pow.{field, mod-mod-pow, shr-shr}
+use lib.Seq.{set-getD}
 use Rattle.bits.specs.Words.{wordAt, Store, store, after, All}
-use Rattle.bits.proofs.Stores.{Fine, Fits, all-take, all-append, all-imp, after-fine}
+use Rattle.bits.proofs.Stores.{Fine, Fits, all-append, all-imp}
 use Rattle.image.specs.declared.Layout.{Layout}
 use Rattle.image.specs.Layout.{layoutOf, end, blocksIn}
 use Rattle.image.specs.Content.{permalock, countIn, pending}
@@ -17,17 +21,19 @@ use Rattle.image.proofs.Answers.{check-good, good-check}
 use Rattle.image.proofs.Fits.{go-below}
 use Rattle.rights.specs.Rights.{permaBit}
 use Rattle.stores.specs.Stores.{staged, finished, changeStores, settling, epcCrc, powerStores}
+use Rattle.stores.specs.Cuts.{Cut, withByte, cutAfter}
 use Rattle.stores.proofs.Sane.{none-pending}
-use Rattle.stores.proofs.Cuts.{cuts, cut-pending, power-cut-pending, power-cut-good}
+use Rattle.stores.proofs.Mixed.{joined, Lows, run-fine, cut-by, cut-lows}
+use Rattle.stores.proofs.Cuts.{change-left, power-left}
 use Rattle.tag.specs.declared.Session.{Session}
 use Rattle.tag.specs.Result.{Result, leaves}
 use Rattle.tag.specs.Port.{badCount, refusals, readOf}
-use Rattle.demands.specs.Calls.{Call, powerUp, admit, frame, ask, release, register, read, write, answerOf, imageAfter, run}
+use Rattle.demands.specs.Calls.{Call, powerUp, admit, frame, ask, release, register, read, write, Tag, answerOf, torn, Turn, run}
 use Rattle.demands.specs.Demands.{Storing, byRadio, byPort, told, Kept, AnyRun}
 use Rattle.demands.proofs.Sound.{Keeps, Sound, free-keeps}
 use Rattle.demands.proofs.Plans.{Plan, no-plan, plan-change}
 use Rattle.demands.proofs.Rows.{Refused, Acting, wordsOf, acts, first-each}
-use Rattle.demands.proofs.Cuts.{power-image}
+use Rattle.demands.proofs.Cuts.{power-torn, torn-told}
 
 -- some store of the list puts v at word i
 abbrev Puts : List Store → ℕ → ℕ → Type 0
@@ -47,48 +53,104 @@ all-and : (P Q : Store → Type 0) (ss : List Store) → All P ss → All Q ss �
 all-and P Q [] a b = tt
 all-and P Q (s ∷ ss) a b = ((a .0, b .0), all-and P Q ss (a .1) (b .1))
 
--- where a word of an image may come from: the image m, EPC word 0, or the words ss
-abbrev Comes : Layout → List ℕ → List Store → ℕ → ℕ → Type 0
-Comes y m ss i v = (v ≡ wordAt m i) ⊎ ((i ≡ y .epc .at) ⊎ Puts ss i v)
+-- each bit of v is that of a or that of p
+record Between (a p v : ℕ) : Type 0 where
+  same : p ≡ a → v ≡ a
+  bits : (t : ℕ) → (v / 2 ^ t % 2 ≡ a / 2 ^ t % 2) ⊎ (v / 2 ^ t % 2 ≡ p / 2 ^ t % 2)
+
+between-old : (a p v : ℕ) → v ≡ a → Between a p v
+between-old a p v e = record { same = λ q. e; bits = λ t. inl (ap (λ (x : ℕ). x / 2 ^ t % 2) e) }
+
+between-new : (a p v : ℕ) → v ≡ p → Between a p v
+between-new a p v e = record { same = λ q. e ∙ q; bits = λ t. inr (ap (λ (x : ℕ). x / 2 ^ t % 2) e) }
+
+-- the low eight bits are those of the low byte, the others those of the rest
+low-bit : (n t : ℕ) → t < 8 → n / 2 ^ t % 2 ≡ n % 256 / 2 ^ t % 2
+low-bit n t l =
+    let e : 7 - t + 1 + t ≡ 8 = omega arith in
+    sym (mod-mod-pow (n / 2 ^ t) (7 - t) 1) ∙ ap (λ (x : ℕ). x % 2) (sym (field n (7 - t + 1) t) ∙ ap (λ (x : ℕ). n % 2 ^ x / 2 ^ t) e)
+
+high-bit : (n t : ℕ) → 8 ≤ t → n / 2 ^ t % 2 ≡ n / 256 / 2 ^ (t - 8) % 2
+high-bit n t l = let e : 8 + (t - 8) ≡ t = omega arith in ap (λ (x : ℕ). x % 2) (sym (shr-shr n 8 (t - 8) ∙ ap (λ (x : ℕ). n / 2 ^ x) e))
+
+joined-bit : (a b t : ℕ) → (joined a b / 2 ^ t % 2 ≡ a / 2 ^ t % 2) ⊎ (joined a b / 2 ^ t % 2 ≡ b / 2 ^ t % 2)
+joined-bit a b t = go (decLt t 8)
+  where
+    go : Dec (t < 8) → (joined a b / 2 ^ t % 2 ≡ a / 2 ^ t % 2) ⊎ (joined a b / 2 ^ t % 2 ≡ b / 2 ^ t % 2)
+    go (yes l) =
+        let e : joined a b % 256 ≡ b % 256 = omega arith in
+        inr (low-bit (joined a b) t l ∙ ap (λ (x : ℕ). x / 2 ^ t % 2) e ∙ sym (low-bit b t l))
+    go (no l) =
+        let e : joined a b / 256 ≡ a / 256 = omega arith in
+        let h : 8 ≤ t = omega arith in
+        inl (high-bit (joined a b) t h ∙ ap (λ (x : ℕ). x / 2 ^ (t - 8) % 2) e ∙ sym (high-bit a t h))
+
+between-joined : (w p a b : ℕ) → Between w p a → Between w p b → Between w p (joined a b)
+between-joined w p a b f g =
+    record {
+      same = λ q. omega (arith, f .same q, g .same q);
+      bits = λ t. ⊎-elim (λ e. ⊎-map (λ d. e ∙ d) (λ d. e ∙ d) (f .bits t)) (λ e. ⊎-map (λ d. e ∙ d) (λ d. e ∙ d) (g .bits t)) (joined-bit a b t);
+    }
+
+-- where a word of an image may come from: the image m, EPC word 0, or between m and the words ss, which f tells by their places
+abbrev Comes : Layout → List ℕ → List Store → (ℕ → ℕ) → ℕ → ℕ → Type 0
+Comes y m ss f i v = (v ≡ wordAt m i) ⊎ ((i ≡ y .epc .at) ⊎ (Puts ss i (f i) × Between (wordAt m i) (f i) v))
 
 -- the same, for words outside WORK only
-abbrev Below : Layout → List ℕ → List Store → ℕ → ℕ → Type 0
-Below y m ss i v = i < y .work .at → Comes y m ss i v
+abbrev Below : Layout → List ℕ → List Store → (ℕ → ℕ) → ℕ → ℕ → Type 0
+Below y m ss f i v = i < y .work .at → Comes y m ss f i v
 
--- stores in WORK, and those of ss, make such an image
-comes-after : (y : Layout) (m : List ℕ) (ss xs : List Store) → 2 * y .work .at ≤ length m → Fits (Below y m ss) xs → Fine (y .work .at) (Comes y m ss) (after m xs)
-comes-after y m ss xs l f i b = after-fine (Below y m ss) (y .work .at) m xs l f (λ i l b. inl refl) i b b
+module _ (y : Layout) (m : List ℕ) (ss : List Store) (f : ℕ → ℕ) where
+  comes-joined : (i a b : ℕ) → Comes y m ss f i a → Comes y m ss f i b → Comes y m ss f i (joined a b)
+  comes-joined i a b (inl p) (inl q) = inl (omega arith)
+  comes-joined i a b (inl p) (inr (inl q)) = inr (inl q)
+  comes-joined i a b (inl p) (inr (inr q)) = inr (inr (q .0, between-joined (wordAt m i) (f i) a b (between-old (wordAt m i) (f i) a p) (q .1)))
+  comes-joined i a b (inr (inl p)) c = inr (inl p)
+  comes-joined i a b (inr (inr p)) (inl q) = inr (inr (p .0, between-joined (wordAt m i) (f i) a b (p .1) (between-old (wordAt m i) (f i) b q)))
+  comes-joined i a b (inr (inr p)) (inr (inl q)) = inr (inl q)
+  comes-joined i a b (inr (inr p)) (inr (inr q)) = inr (inr (p .0, between-joined (wordAt m i) (f i) a b (p .1) (q .1)))
 
-staged-below : (y : Layout) (m : List ℕ) (ss xs : List Store) (a : ℕ) → y .work .at ≤ a → Fits (Below y m ss) (staged a xs)
-staged-below y m ss [] a l = tt
-staged-below y m ss (x ∷ xs) a l = (λ b. absurd (omega arith), (λ b. absurd (omega arith), staged-below y m ss xs (a + 2) (omega arith)))
+  below-joined : (i a b : ℕ) → Below y m ss f i a → Below y m ss f i b → Below y m ss f i (joined a b)
+  below-joined i a b p q = λ l. comes-joined i a b (p l) (q l)
 
-finished-below : (y : Layout) (m : List ℕ) (ss xs : List Store) → Fits (Below y m ss) xs → Fits (Below y m ss) (finished (y .work .at) xs)
-finished-below y m ss [] f = tt
-finished-below y m ss (x ∷ xs) f =
-    all-append (λ s. Below y m ss (s .at) (s .value)) (x ∷ xs) (store (y .work .at) 0 ∷ []) f (λ b. absurd (omega arith), tt)
+  -- stores in WORK, and those of ss, cut anywhere, make such an image
+  comes-after : (xs : List Store) → Lows m → 2 * y .work .at ≤ length m → Fits (Below y m ss f) xs → (c : Cut) → Fine (y .work .at) (Comes y m ss f) (cutAfter c m xs)
+  comes-after xs h l e =
+      cut-by (Fine (y .work .at) (Comes y m ss f)) m xs h (λ k t i b. run-fine (Below y m ss f) below-joined (y .work .at) k t m xs l e (λ i l b. inl refl) i b b)
 
-own-below : (y : Layout) (m : List ℕ) (ss : List Store) → Fits (Below y m ss) ss
-own-below y m ss = all-imp (λ s. Puts ss (s .at) (s .value)) (λ s. Below y m ss (s .at) (s .value)) (λ s h b. inr (inr h)) ss (all-puts ss)
+  staged-below : (xs : List Store) (a : ℕ) → y .work .at ≤ a → Fits (Below y m ss f) (staged a xs)
+  staged-below [] a l = tt
+  staged-below (x ∷ xs) a l = (λ b. absurd (omega arith), (λ b. absurd (omega arith), staged-below xs (a + 2) (omega arith)))
 
-change-below : (y : Layout) (m : List ℕ) (ss : List Store) → Fits (Below y m ss) (changeStores (y .work .at) ss)
-change-below y m ss = go ss (own-below y m ss)
-  where
-    go : (xs : List Store) → Fits (Below y m ss) xs → Fits (Below y m ss) (changeStores (y .work .at) xs)
-    go [] f = tt
-    go (x ∷ xs) f =
-        all-append P (staged (y .work .at + 1) (x ∷ xs) ++ (store (y .work .at) (length (x ∷ xs)) ∷ [])) (finished (y .work .at) (x ∷ xs))
-        (all-append P (staged (y .work .at + 1) (x ∷ xs)) (store (y .work .at) (length (x ∷ xs)) ∷ []) (staged-below y m ss (x ∷ xs) (y .work .at + 1) (omega arith)) (λ b. absurd (omega arith), tt))
-        (finished-below y m ss (x ∷ xs) f)
-      where
-        P : Store → Type 0
-        P s = Below y m ss (s .at) (s .value)
+  finished-below : (xs : List Store) → Fits (Below y m ss f) xs → Fits (Below y m ss f) (finished (y .work .at) xs)
+  finished-below [] e = tt
+  finished-below (x ∷ xs) e =
+      all-append (λ s. Below y m ss f (s .at) (s .value)) (x ∷ xs) (store (y .work .at) 0 ∷ []) e (λ b. absurd (omega arith), tt)
 
-power-below : (y : Layout) (m : List ℕ) → Fits (Below y m (pending y m)) (powerStores y m)
+  own-below : All (λ s. s .value ≡ f (s .at)) ss → Fits (Below y m ss f) ss
+  own-below u =
+      all-imp (λ s. (s .value ≡ f (s .at)) × Puts ss (s .at) (s .value)) (λ s. Below y m ss f (s .at) (s .value))
+      (λ s h b. inr (inr (subst (λ (x : ℕ). Puts ss (s .at) x) (h .0) (h .1), between-new (wordAt m (s .at)) (f (s .at)) (s .value) (h .0)))) ss
+      (all-and (λ s. s .value ≡ f (s .at)) (λ s. Puts ss (s .at) (s .value)) ss u (all-puts ss))
+
+  change-below : All (λ s. s .value ≡ f (s .at)) ss → Fits (Below y m ss f) (changeStores (y .work .at) ss)
+  change-below u = go ss (own-below u)
+    where
+      P : Store → Type 0
+      P s = Below y m ss f (s .at) (s .value)
+
+      go : (xs : List Store) → Fits (Below y m ss f) xs → Fits (Below y m ss f) (changeStores (y .work .at) xs)
+      go [] e = tt
+      go (x ∷ xs) e =
+          all-append P (staged (y .work .at + 1) (x ∷ xs) ++ (store (y .work .at) (length (x ∷ xs)) ∷ [])) (finished (y .work .at) (x ∷ xs))
+          (all-append P (staged (y .work .at + 1) (x ∷ xs)) (store (y .work .at) (length (x ∷ xs)) ∷ []) (staged-below (x ∷ xs) (y .work .at + 1) (omega arith)) (λ b. absurd (omega arith), tt))
+          (finished-below (x ∷ xs) e)
+
+power-below : (y : Layout) (m : List ℕ) (f : ℕ → ℕ) → All (λ s. s .value ≡ f (s .at)) (pending y m) → Fits (Below y m (pending y m) f) (powerStores y m)
 unfolding powerStores
-power-below y m =
-    all-append (λ s. Below y m (pending y m) (s .at) (s .value)) (settling y m) (store (y .epc .at) (epcCrc y (after m (settling y m))) ∷ [])
-    (finished-below y m (pending y m) (pending y m) (own-below y m (pending y m))) (λ b. inr (inl refl), tt)
+power-below y m f u =
+    all-append (λ s. Below y m (pending y m) f (s .at) (s .value)) (settling y m) (store (y .epc .at) (epcCrc y (after m (settling y m))) ∷ [])
+    (finished-below y m (pending y m) f (pending y m) (own-below y m (pending y m) f u)) (λ b. inr (inl refl), tt)
 
 -- EPC word 0 is free, and a word that stays keeps everything
 module _ (y : Layout) (m : List ℕ) (g : Header y m) where
@@ -118,20 +180,30 @@ module _ (y : Layout) (m : List ℕ) (g : Header y m) where
   perma-word b l = omega (arith, g .perma .least, l)
 
 -- what came from m keeps what m had: words of n that keep, and n's own words of a plan
-module _ (y : Layout) (m n : List ℕ) (ss : List Store) (g : Good y m) (h : Good y n) (p : Plan y m ss) (c : Fine (y .work .at) (Comes y m ss) n) where
+module _ (y : Layout) (m n : List ℕ) (ss : List Store) (g : Good y m) (h : Good y n) (p : Plan y m ss) (c : Fine (y .work .at) (Comes y m ss (p .value)) n) where
   hd : Header y m
   hd = g .header
 
   put-keeps : (i v : ℕ) → Puts ss i v → Keeps y m i v
   put-keeps i v q = puts-all (Sound y m) ss (p .sound) i v q .keeps
 
-  pub words-keep : Fine (y .work .at) (Keeps y m) n
+  between-keeps : (i v u : ℕ) → Keeps y m i v → Between (wordAt m i) v u → Keeps y m i u
+  between-keeps i v u k b =
+      record {
+        header = λ l. b .same (k .header l);
+        tid = λ l n. b .same (k .tid l n);
+        locks = λ q j l e. ⊎-elim (λ d. d ∙ e) (λ d. d ∙ k .locks q j l e) (b .bits (8 - 2 * j));
+        blocks = λ l n t e. ⊎-elim (λ d. d ∙ e) (λ d. d ∙ k .blocks l n t e) (b .bits t);
+        words = λ l n e. b .same (k .words l n e);
+      }
+
+  words-keep : Fine (y .work .at) (Keeps y m) n
   words-keep i l = go (c i l)
     where
-      go : Comes y m ss i (wordAt n i) → Keeps y m i (wordAt n i)
+      go : Comes y m ss (p .value) i (wordAt n i) → Keeps y m i (wordAt n i)
       go (inl e) = stays-keeps y m hd i (wordAt n i) e
       go (inr (inl e)) = subst (λ (x : ℕ). Keeps y m x (wordAt n i)) (sym e) (epc-keeps y m hd (wordAt n i))
-      go (inr (inr q)) = put-keeps i (wordAt n i) q
+      go (inr (inr q)) = between-keeps i (p .value i) (wordAt n i) (put-keeps i (p .value i) (q .0)) (q .1)
 
   -- a word that a store of ss goes to has its old value or that store's, or is EPC word 0
   put-again : (i v : ℕ) → i < y .work .at → Puts ss i v → Keeps y n i v
@@ -140,10 +212,8 @@ module _ (y : Layout) (m n : List ℕ) (ss : List Store) (g : Good y m) (h : Goo
       k : Keeps y m i v
       k = put-keeps i v q
 
-      same : Puts ss i (wordAt n i) → v ≡ wordAt n i
-      same r =
-          puts-all (λ s. s .value ≡ p .value (s .at)) ss (p .single) i v q
-          ∙ sym (puts-all (λ s. s .value ≡ p .value (s .at)) ss (p .single) i (wordAt n i) r)
+      own : v ≡ p .value i
+      own = puts-all (λ s. s .value ≡ p .value (s .at)) ss (p .single) i v q
 
       -- where words of USER are put, PERMA stays
       perma-same : y .user .at ≤ i → i < end (y .user) → permalock y n ((i - y .user .at) / y .block) ≡ permalock y m ((i - y .user .at) / y .block)
@@ -152,24 +222,27 @@ module _ (y : Layout) (m n : List ℕ) (ss : List Store) (g : Good y m) (h : Goo
           let w : k / 16 < y .perma .words = perma-word y m hd k (block-small y m hd (i - y .user .at) (omega arith)) in
           ap (λ (x : ℕ). x / 2 ^ (15 - k % 16) % 2) (word (y .perma .at + k / 16) (omega (arith, w)) (c (y .perma .at + k / 16) (omega (arith, w, hd .work .at))))
         where
-          word : (j : ℕ) → y .perma .at ≤ j → Comes y m ss j (wordAt n j) → wordAt n j ≡ wordAt m j
+          word : (j : ℕ) → y .perma .at ≤ j → Comes y m ss (p .value) j (wordAt n j) → wordAt n j ≡ wordAt m j
           word j l (inl e) = e
           word j l (inr (inl e)) = absurd (omega (arith, hd))
           word j l (inr (inr r)) =
-              ⊎-elim (λ u. absurd (omega (arith, l, puts-all (λ s. s .at < y .perma .at) ss u j (wordAt n j) r)))
+              ⊎-elim (λ u. absurd (omega (arith, l, puts-all (λ s. s .at < y .perma .at) ss u j (p .value j) (r .0))))
               (λ u. absurd (omega (arith, hd, b, puts-all (λ s. y .perma .at ≤ s .at) ss u i v q))) (p .apart)
 
-      go : Comes y m ss i (wordAt n i) → Keeps y n i v
-      go (inl e) =
+      still : Between (wordAt m i) v (wordAt n i) → Keeps y n i v
+      still b =
           record {
-            header = λ l. k .header l ∙ sym e;
-            tid = λ l n. k .tid l n ∙ sym e;
-            locks = λ z j l b. k .locks z j l (ap (λ (x : ℕ). permaBit x j) (sym e) ∙ b);
-            blocks = λ l n t b. k .blocks l n t (ap (λ (x : ℕ). x / 2 ^ t % 2) (sym e) ∙ b);
-            words = λ l n b. k .words l n (sym (perma-same l n) ∙ b) ∙ sym e;
+            header = λ l. k .header l ∙ sym (b .same (k .header l));
+            tid = λ l n. k .tid l n ∙ sym (b .same (k .tid l n));
+            locks = λ z j l e. ⊎-elim (λ d. k .locks z j l (sym d ∙ e)) (λ d. sym d ∙ e) (b .bits (8 - 2 * j));
+            blocks = λ l n t e. ⊎-elim (λ d. k .blocks l n t (sym d ∙ e)) (λ d. sym d ∙ e) (b .bits t);
+            words = λ l n e. (let r = k .words l n (sym (perma-same l n) ∙ e) in r ∙ sym (b .same r));
           }
+
+      go : Comes y m ss (p .value) i (wordAt n i) → Keeps y n i v
+      go (inl e) = still (between-old (wordAt m i) v (wordAt n i) e)
       go (inr (inl e)) = subst (λ (x : ℕ). Keeps y n x v) (sym e) (epc-keeps y n (h .header) v)
-      go (inr (inr r)) = stays-keeps y n (h .header) i v (same r)
+      go (inr (inr r)) = still (subst (λ (x : ℕ). Between (wordAt m i) x (wordAt n i)) (sym own) (r .1))
 
   put-sound : (s : Store) → Sound y m s × Puts ss (s .at) (s .value) → Sound y n s
   put-sound s (f, q) = record { goes = f .goes; ok = f .ok; keeps = put-again (s .at) (s .value) (go-below y m hd (s .at) (f .goes) .1) q }
@@ -197,7 +270,7 @@ record Step (y : Layout) (m n : List ℕ) : Type 0 where
 stay : (y : Layout) (m : List ℕ) → Steady y m → Step y m m
 stay y m s = record { keeps = λ i l. stays-keeps y m (s .sound .header) i (wordAt m i) refl; steady = s }
 
-advance : (y : Layout) (m n : List ℕ) (ss : List Store) → Good y m → Good y n → Plan y m ss → Fine (y .work .at) (Comes y m ss) n
+advance : (y : Layout) (m n : List ℕ) (ss : List Store) → Good y m → Good y n → (p : Plan y m ss) → Fine (y .work .at) (Comes y m ss (p .value)) n
     → (pending y n ≡ ss) ⊎ (pending y n ≡ []) → Step y m n
 advance y m n ss g h p c r =
     record {
@@ -206,40 +279,53 @@ advance y m n ss g h p c r =
     }
 
 -- a power-up, and a change, each cut anywhere
-power-step : (y : Layout) (m : List ℕ) → Steady y m → (s : ℕ) → Step y m (after m (take s (powerStores y m)))
-power-step y m t s =
-    advance y m (after m (take s (powerStores y m))) (pending y m) (t .sound) (power-cut-good y m (t .sound) s) (t .plan)
-    (comes-after y m (pending y m) (take s (powerStores y m)) (omega (arith, t .sound .header .whole))
-    (all-take (λ x. Below y m (pending y m) (x .at) (x .value)) s (powerStores y m) (power-below y m)))
-    (power-cut-pending y m (t .sound) s)
+power-step : (y : Layout) (m : List ℕ) → Steady y m → Lows m → (c : Cut) → Step y m (cutAfter c m (powerStores y m))
+power-step y m s h c =
+    let f = power-left y m h (s .sound) c in
+    advance y m (cutAfter c m (powerStores y m)) (pending y m) (s .sound) (f .0) (s .plan)
+    (comes-after y m (pending y m) (s .plan .value) (powerStores y m) h (omega (arith, s .sound .header .whole)) (power-below y m (s .plan .value) (s .plan .single)) c)
+    (f .1)
 
-change-step : (y : Layout) (m : List ℕ) → Steady y m → countIn y m ≡ 0 → (ws : List Store) → Plan y m ws → (s : ℕ)
-    → Step y m (after m (take s (changeStores (y .work .at) ws)))
-change-step y m t z [] p s = subst (λ (xs : List Store). Step y m (after m xs)) (sym (take-nothing s)) (stay y m t)
-  where
-    take-nothing : (s : ℕ) → take s (changeStores (y .work .at) []) ≡ []
-    take-nothing zero = refl
-    take-nothing (suc s) = refl
-change-step y m t z (x ∷ xs) p s =
+change-step : (y : Layout) (m : List ℕ) → Steady y m → Lows m → countIn y m ≡ 0 → (ws : List Store) → Plan y m ws → (c : Cut)
+    → Step y m (cutAfter c m (changeStores (y .work .at) ws))
+change-step y m s h z [] p c = cut-by (Step y m) m [] h (λ k t. stay y m s) c
+change-step y m s h z (x ∷ xs) p c =
     let ws = x ∷ xs in
-    let c = plan-change y m (t .sound) ws z p (omega arith) in
-    advance y m (after m (take s (changeStores (y .work .at) ws))) ws (t .sound) (cuts y m ws (t .sound) z c .good s []) p
-    (comes-after y m ws (take s (changeStores (y .work .at) ws)) (omega (arith, t .sound .header .whole))
-    (all-take (λ x. Below y m ws (x .at) (x .value)) s (changeStores (y .work .at) ws) (change-below y m ws)))
-    (cut-pending y m ws (t .sound) z c s)
+    let f = change-left y m ws h (s .sound) z (plan-change y m (s .sound) ws z p (omega arith)) c in
+    advance y m (cutAfter c m (changeStores (y .work .at) ws)) ws (s .sound) (f .0) p
+    (comes-after y m ws (p .value) (changeStores (y .work .at) ws) h (omega (arith, s .sound .header .whole)) (change-below y m ws (p .value) (p .single)) c)
+    (f .1)
 
--- every call
-module _ (y : Layout) (m : List ℕ) (t : Steady y m) (v : Session) where
-  same-step : (n : List ℕ) → n ≡ m → Step y m n
-  same-step n e = subst (Step y m) (sym e) (stay y m t)
+-- every call; and the words' low bytes stay bytes
+module _ (y : Layout) (m : List ℕ) (s : Steady y m) (h : Lows m) (v : Session) where
+  tag : Tag
+  tag = record { session = v; image = m }
 
-  command-step : (c : Storing) (s : ℕ) → Step y m (answerOf (record { session = v; image = m }) (told c s) .image)
-  command-step c s = go (acts y (record { session = v; image = m }) c s (t .sound))
+  Next : List ℕ → Type 0
+  Next n = Step y m n × Lows n
+
+  -- both images are m
+  same-next : (j : ℕ) (n o : List ℕ) → n ≡ m → o ≡ m → Next (withByte j n o)
+  unfolding Next
+  same-next j n o p q = subst Next (sym (ap₂ (withByte j) p q ∙ set-getD m j 0)) (stay y m s, h)
+
+  acting-next : (c : Storing) (k j : ℕ) → Acting y tag c (wordsOf tag c) → Next (torn tag (told c k) j)
+  unfolding tag Next
+  acting-next c k j a =
+      let d : Cut = record { whole = k; byte = j } in
+      let xs = changeStores (y .work .at) (wordsOf tag c) in
+      subst Next (sym (torn-told tag c k j ∙ ap₂ (withByte j) (a .image (suc k)) (a .image k)))
+      (change-step y m s h (a .idle) (wordsOf tag c) (a .plan) d, cut-lows d m xs h)
+
+  command-next : (c : Storing) (k j : ℕ) → Next (torn tag (told c k) j)
+  unfolding tag
+  command-next c k j = go (acts y tag c (suc k) (s .sound)) (acts y tag c k (s .sound))
     where
-      go : Refused m (answerOf (record { session = v; image = m }) (told c s)) ⊎ Acting y (record { session = v; image = m }) c (wordsOf (record { session = v; image = m }) c)
-          → Step y m (answerOf (record { session = v; image = m }) (told c s) .image)
-      go (inl r) = same-step _ (r .0)
-      go (inr a) = subst (Step y m) (sym (a .image s)) (change-step y m t (a .idle) (wordsOf (record { session = v; image = m }) c) (a .plan) s)
+      go : Refused m (answerOf tag (told c (suc k))) ⊎ Acting y tag c (wordsOf tag c) → Refused m (answerOf tag (told c k)) ⊎ Acting y tag c (wordsOf tag c)
+          → Next (torn tag (told c k) j)
+      go (inl p) (inl q) = subst Next (sym (torn-told tag c k j)) (same-next j _ _ (p .0) (q .0))
+      go (inr a) q = acting-next c k j a
+      go (inl p) (inr a) = acting-next c k j a
 
   read-same : (at count : ℕ) (room : List ℕ) → readOf v m at count room .image ≡ m
   unfolding readOf
@@ -247,17 +333,19 @@ module _ (y : Layout) (m : List ℕ) (t : Steady y m) (v : Session) where
       first-each (λ (r : Result). r .image ≡ m) (refusals v m room (badCount (layoutOf m) at count) ++ ((leaves 4 v m room, ltb (length room) (2 * count)) ∷ [])) _
       (λ e. refl, (λ e. refl, (λ e. refl, (λ e. refl, (λ e. refl, (λ e. refl, (λ e. refl, tt))))))) refl
 
-  step : (c : Call) → Step y m (imageAfter (record { session = v; image = m }) c)
-  step (powerUp s) =
-      subst (Step y m) (sym (power-image y m (t .sound) s))
-      (subst (λ (z : Layout). Step y m (after m (take s (powerStores z m)))) (t .sound .layout) (power-step y m t s))
-  step (admit n) = stay y m t
-  step (frame f bits fresh room s) = command-step (byRadio f bits fresh room) s
-  step ask = stay y m t
-  step release = stay y m t
-  step register = stay y m t
-  step (read at count room) = same-step _ (read-same at count room)
-  step (write at d s) = command-step (byPort at d) s
+  next : (c : Call) (j : ℕ) → Next (torn tag c j)
+  unfolding tag Next
+  next (powerUp k) j =
+      let d : Cut = record { whole = k; byte = j } in
+      subst Next (sym (power-torn y m (s .sound) d))
+      (subst (λ (z : Layout). Next (cutAfter d m (powerStores z m))) (s .sound .layout) (power-step y m s h d, cut-lows d m (powerStores y m) h))
+  next (admit n) j = same-next j m m refl refl
+  next (frame f bits fresh room k) j = command-next (byRadio f bits fresh room) k j
+  next ask j = same-next j m m refl refl
+  next release j = same-next j m m refl refl
+  next register j = same-next j m m refl refl
+  next (read at count room) j = same-next j _ _ (read-same at count room) (read-same at count room)
+  next (write at d k) j = command-next (byPort at d) k j
 
 -- one step after the other
 keeps-then : (y : Layout) (m n : List ℕ) → Good y m → Fine (y .work .at) (Keeps y m) n → (i v : ℕ) → i < y .work .at → Keeps y n i v → Keeps y m i v
@@ -276,17 +364,20 @@ keeps-then y m n g f i v l k =
         let w : j / 16 < y .perma .words = perma-word y m (g .header) j (block-small y m (g .header) (i - y .user .at) (omega arith)) in
         f (y .perma .at + j / 16) (omega (arith, w, g .header .work .at)) .blocks (omega arith) (omega (arith, w)) (15 - j % 16) e
 
-runs : (y : Layout) (m : List ℕ) (cs : List (Session × Call)) → Steady y m → Step y m (run m cs)
-runs y m [] t = stay y m t
-runs y m (c ∷ cs) t =
-    let n = imageAfter (record { session = c .0; image = m }) (c .1) in
-    let a = step y m t (c .0) (c .1) in
-    let b = runs y n cs (a .steady) in
-    record { keeps = λ i l. keeps-then y m n (t .sound) (a .keeps) i (wordAt (run n cs) i) l (b .keeps i l); steady = b .steady }
+runs : (y : Layout) (m : List ℕ) (cs : List Turn) → Steady y m → Lows m → Step y m (run m cs) × Lows (run m cs)
+unfolding Next tag
+runs y m [] s h = (stay y m s, h)
+runs y m (c ∷ cs) s h =
+    let n = torn (record { session = c .session; image = m }) (c .call) (c .byte) in
+    let a : Step y m n × Lows n = next y m s h (c .session) (c .call) (c .byte) in
+    let b = runs y n cs (a .0 .steady) (a .1) in (
+      record { keeps = λ i l. keeps-then y m n (s .sound) (a .0 .keeps) i (wordAt (run n cs) i) l (b .0 .keeps i l); steady = b .0 .steady },
+      b .1,
+    )
 
-run-append : (m : List ℕ) (cs ds : List (Session × Call)) → run m (cs ++ ds) ≡ run (run m cs) ds
+pub run-append : (m : List ℕ) (cs ds : List Turn) → run m (cs ++ ds) ≡ run (run m cs) ds
 run-append m [] ds = refl
-run-append m (c ∷ cs) ds = run-append (imageAfter (record { session = c .0; image = m }) (c .1)) cs ds
+run-append m (c ∷ cs) ds = run-append (torn (record { session = c .session; image = m }) (c .call) (c .byte)) cs ds
 
 -- what is kept word by word is what the buyer asks to be kept
 kept : (y : Layout) (m n : List ℕ) → Good y m → Step y m n → Kept y m n
@@ -305,8 +396,9 @@ kept y m n g s =
     }
 
 pub any-run : AnyRun
-any-run y m before later idle =
+any-run y m before later bytes idle =
     let g = check-good m y (idle .sound) in
-    let t : Steady y m = record { sound = g; plan = subst (Plan y m) (sym (none-pending y m (idle .nothing))) (no-plan y m) } in
-    let a = runs y m before t in
-    rw (run-append m before later) (kept y (run m before) (run (run m before) later) (a .steady .sound) (runs y (run m before) later (a .steady)))
+    let s : Steady y m = record { sound = g; plan = subst (Plan y m) (sym (none-pending y m (idle .nothing))) (no-plan y m) } in
+    let a = runs y m before s (λ i. bytes (2 * i + 1)) in
+    let n = run m before in
+    rw (run-append m before later) (kept y n (run n later) (a .0 .steady .sound) (runs y n later (a .0 .steady) (a .1) .0))

@@ -1,5 +1,5 @@
 -- The public operations as calls of one tag, and what their promises say of each (RULES 5 and 7.1). Assumes nothing.
-use Prim.Native.Nat.{ℕ}
+use Prim.Native.Nat.{ℕ, suc}
 use mathlib.Core.Path.{_≡_}
 use mathlib.Core.List.{List, [], _∷_}
 use Rattle.bits.specs.Words.{Store}
@@ -11,6 +11,7 @@ use Rattle.frames.specs.Frames.{heardOf}
 use Rattle.rights.specs.declared.Code.{Code}
 use Rattle.rights.specs.declared.Code.the-variants as code
 use Rattle.stores.specs.Stores.{changeStores, powerStores}
+use Rattle.stores.specs.Cuts.{withByte}
 use Rattle.tag.specs.declared.Session.{Session}
 use Rattle.tag.specs.declared.Outcome.{Outcome}
 use Rattle.tag.specs.Session.{offSession}
@@ -128,10 +129,30 @@ imageAfter t register = t .image
 imageAfter t (read at count room) = answerOf t (read at count room) .image
 imageAfter t (write at d s) = answerOf t (write at d s) .image
 
--- any run of calls, each with whatever session: cuts are calls whose power does not last
-abbrev pub run : List ℕ → List (Session × Call) → List ℕ
+-- a call with power for one store more
+abbrev pub more : Call → Call
+more (powerUp s) = powerUp (suc s)
+more (admit n) = admit n
+more (frame f bits fresh room s) = frame f bits fresh room (suc s)
+more ask = ask
+more release = release
+more register = register
+more (read at count room) = read at count room
+more (write at d s) = write at d (suc s)
+
+-- the image after a call whose power fails in the middle of a store: as it is, but byte j as with power for one store more
+abbrev pub torn : Tag → Call → ℕ → List ℕ
+torn t c j = withByte j (imageAfter t (more c)) (imageAfter t c)
+
+-- any run of calls, each with whatever session: cuts are calls whose power does not last, and of the next store one byte may be made
+pub record Turn : Type 0 where
+  pub session : Session
+  pub call : Call
+  pub byte : ℕ
+
+abbrev pub run : List ℕ → List Turn → List ℕ
 run m [] = m
-run m (c ∷ cs) = run (imageAfter (record { session = c .0; image = m }) (c .1)) cs
+run m (c ∷ cs) = run (torn (record { session = c .session; image = m }) (c .call) (c .byte)) cs
 
 -- a good image of the layout y with nothing pending
 pub record Idle (y : Layout) (m : List ℕ) : Type 0 where

@@ -35,7 +35,7 @@ pub record Case : Type 0 where
   pub computed : List ℕ
   pub expected : List ℕ
 
-abbrev p : ℕ → List ℕ → List ℕ → Case
+abbrev pub p : ℕ → List ℕ → List ℕ → Case
 p n computed expected = record { number = n; computed = computed; expected = expected }
 
 -- every case of the table holds

@@ -5,7 +5,7 @@ use mathlib.Core.Bool.{Bool, true, _||_}
 use mathlib.Core.List.{List, [], _∷_, _++_}
 use lib.Dec.{eqb}
 use lib.ListN.{length, take}
-use Rattle.bits.specs.Words.{wordAt, after}
+use Rattle.bits.specs.Words.{Bytes, wordAt, after}
 use Rattle.image.specs.declared.Layout.{Layout}
 use Rattle.image.specs.Layout.{end, blocksIn, within}
 use Rattle.image.specs.Content.{lockWord, permalock}
@@ -15,6 +15,7 @@ use Rattle.replies.specs.declared.Reply.the-variants as reply
 use Rattle.replies.specs.Replies.{replyBits}
 use Rattle.replies.specs.Pack.{packed}
 use Rattle.rights.specs.Rights.{permaBit}
+use Rattle.stores.specs.Cuts.{Cut, reaches}
 use Rattle.tag.specs.declared.State.the-variants as state
 use Rattle.tag.specs.declared.Session.{Session}
 use Rattle.tag.specs.declared.Outcome.{Outcome}
@@ -23,7 +24,7 @@ use Rattle.tag.specs.Result.{Result, leaves}
 use Rattle.tag.specs.Commands.{linkOf, used}
 use Rattle.tag.specs.Table.{liveOf, replyOr, movedTo}
 use Rattle.tag.specs.Power.{powerUpOf}
-use Rattle.demands.specs.Calls.{Call, frame, write, Tag, answerOf, Meets, sessionIn, imageIn, roomIn, powerIn, storesIn, codeIn, run, Idle}
+use Rattle.demands.specs.Calls.{Call, powerUp, frame, write, Tag, answerOf, Meets, sessionIn, imageIn, roomIn, powerIn, storesIn, codeIn, imageAfter, torn, Turn, run, Idle}
 
 -- DEMAND 1. Every image, frame and SPI transaction that can be handed over gets one answer of the table; a refusal leaves what the table says.
 
@@ -60,6 +61,7 @@ pub record Demand1 : Type 0 where
 -- DEMAND 3. From a good image with nothing pending, a frame or SPI write that stores n words, n at least 1: cut it after any number of stores, and cut the
 -- power-ups that follow as often as you like. The first whole power-up leaves every word outside WORK as if the command had never come (at most 2n stores
 -- made) or as if it had finished (more), each followed by one whole power-up.
+-- One byte is whole or absent: a cut may leave one byte of the next store made. The count of the pending words, store 2n + 1, is made where its low byte is.
 
 -- a command that may store, but for the power
 pub data Storing : Type 0 where
@@ -70,10 +72,18 @@ abbrev pub told : Storing → ℕ → Call
 told (byRadio f bits fresh room) s = frame f bits fresh room s
 told (byPort at d) s = write at d s
 
--- the image after power-ups with power for ks stores
-abbrev pub powerUps : List ℕ → List ℕ → List ℕ
+-- from a good image with nothing pending, c stores n words where the power lasts for `enough`; what is lent as an image consists of bytes
+pub record Stores (y : Layout) (t : Tag) (c : Storing) (n enough : ℕ) : Type 0 where
+  pub bytes : Bytes (t .image)
+  pub idle : Idle y (t .image)
+  pub some : 1 ≤ n
+  pub done : answerOf t (told c enough) .number ≡ 0
+  pub stores : answerOf t (told c enough) .stores ≡ 3 * n + 2
+
+-- the image after power-ups, each cut
+abbrev pub powerUps : List Cut → List ℕ → List ℕ
 powerUps [] m = m
-powerUps (k ∷ ks) m = powerUps ks (powerUpOf m k .image)
+powerUps (f ∷ fs) m = powerUps fs (torn (record { session = offSession; image = m }) (powerUp (f .whole)) (f .byte))
 
 -- m after a whole power-up is n after one, outside WORK
 abbrev pub SameOnce : Layout → List ℕ → List ℕ → Type 0
@@ -81,17 +91,16 @@ SameOnce y m n =
     (j k : ℕ) → powerUpOf m j .number ≡ 0 → powerUpOf n k .number ≡ 0
     → (i : ℕ) → i < y .work .at → wordAt (powerUpOf m j .image) i ≡ wordAt (powerUpOf n k .image) i
 
--- the command c stores n words where the power lasts for `enough`; what a cut after s stores and power-ups told ks leave
-pub record Unbroken (y : Layout) (t : Tag) (c : Storing) (n enough s : ℕ) (ks : List ℕ) : Type 0 where
-  pub old : answerOf t (told c s) .stores ≤ 2 * n → SameOnce y (powerUps ks (answerOf t (told c s) .image)) (t .image)
-  pub new : 2 * n < answerOf t (told c s) .stores → SameOnce y (powerUps ks (answerOf t (told c s) .image)) (answerOf t (told c enough) .image)
-  pub starts : (u : ℕ) → 257 ≤ u → powerUpOf (powerUps ks (answerOf t (told c s) .image)) u .number ≡ 0
+-- m, which is left where k stores count as made, comes to the old words or to the new ones; no power-up of it that lasts for 257 stores is refused or cut
+pub record Unbroken (y : Layout) (t : Tag) (c : Storing) (n enough k : ℕ) (m : List ℕ) : Type 0 where
+  pub old : k ≤ 2 * n → SameOnce y m (t .image)
+  pub new : 2 * n < k → SameOnce y m (answerOf t (told c enough) .image)
+  pub starts : (u : ℕ) → 257 ≤ u → powerUpOf m u .number ≡ 0
 
 abbrev pub Demand3 : Type 0
 Demand3 =
-    (y : Layout) (t : Tag) (c : Storing) (n enough : ℕ) → Idle y (t .image) → 1 ≤ n
-    → answerOf t (told c enough) .number ≡ 0 → answerOf t (told c enough) .stores ≡ 3 * n + 2
-    → (s : ℕ) (ks : List ℕ) → Unbroken y t c n enough s ks
+    (y : Layout) (t : Tag) (c : Storing) (n enough : ℕ) → Stores y t c n enough
+    → (f : Cut) (fs : List Cut) → Unbroken y t c n enough (reaches y f) (powerUps fs (torn t (told c (f .whole)) (f .byte)))
 
 -- So, through any run of commands, SPI transfers, admissions, cuts and power-ups from such an image, with any inputs and any sessions: from any point of
 -- the run to any later one the image stays good, header and TID stay, no permalock is taken off, and no USER word of a permalocked block changes.
@@ -104,4 +113,24 @@ pub record Kept (y : Layout) (m n : List ℕ) : Type 0 where
   pub words : (i : ℕ) → i < y .user .words → permalock y m (i / y .block) ≡ 1 → wordAt n (y .user .at + i) ≡ wordAt m (y .user .at + i)
 
 abbrev pub AnyRun : Type 0
-AnyRun = (y : Layout) (m : List ℕ) (before later : List (Session × Call)) → Idle y m → Kept y (run m before) (run m (before ++ later))
+AnyRun = (y : Layout) (m : List ℕ) (before later : List Turn) → Bytes m → Idle y m → Kept y (run m before) (run m (before ++ later))
+
+-- Her own words, "one word store is whole or absent", are the case where no word is torn: `whole-words` and `whole-runs` in proofs/Whole derive it.
+
+-- the image after power-ups with power for ks stores, and after a run of calls
+abbrev pub wholePowerUps : List ℕ → List ℕ → List ℕ
+wholePowerUps [] m = m
+wholePowerUps (k ∷ ks) m = wholePowerUps ks (powerUpOf m k .image)
+
+abbrev pub wholeRun : List ℕ → List (Session × Call) → List ℕ
+wholeRun m [] = m
+wholeRun m (c ∷ cs) = wholeRun (imageAfter (record { session = c .0; image = m }) (c .1)) cs
+
+abbrev pub WholeWords : Type 0
+WholeWords =
+    (y : Layout) (t : Tag) (c : Storing) (n enough : ℕ) → Stores y t c n enough
+    → (s : ℕ) (ks : List ℕ) → let r = answerOf t (told c s) in Unbroken y t c n enough (r .stores) (wholePowerUps ks (r .image))
+
+abbrev pub WholeRuns : Type 0
+WholeRuns =
+    (y : Layout) (m : List ℕ) (before later : List (Session × Call)) → Bytes m → Idle y m → Kept y (wholeRun m before) (wholeRun m (before ++ later))

@@ -14,6 +14,7 @@ use Rattle.image.specs.Worked.{worked}
 use Rattle.frames.specs.Frames.{heardOf}
 use Rattle.replies.specs.Pack.{packed}
 use Rattle.stores.specs.Stores.{powerStores}
+use Rattle.stores.specs.Cuts.{withByte}
 use Rattle.tag.specs.Result.{Result}
 use Rattle.tag.specs.Power.{started, powerUpOf}
 use Rattle.tag.specs.Table.{Input, input, said, everything, doneWords, storesOf, frameOf}
@@ -95,6 +96,11 @@ shamming-falls f =
 pub sham-mixes : wordAt (powerUpOf (shamming (writing 1) .image) 257 .image) 31 ≡ 0xABCD
 unfolding powerUpOf started powerStores layoutOf headerGood blocksIn contentGood rulesHold worked wordAt withWord wordsBits bitsOf crcOf fieldAt pointerAt heardOf write3
 sham-mixes = refl
+
+-- nor is a torn word stored again: its high byte alone, and the word is neither the old one nor the new one
+pub sham-tears : wordAt (powerUpOf (withByte 62 (shamming (writing 1) .image) (shamming (writing 0) .image)) 257 .image) 31 ≡ 0xAB0A
+unfolding powerUpOf started powerStores layoutOf headerGood blocksIn contentGood rulesHold worked wordAt withWord wordsBits bitsOf crcOf fieldAt pointerAt heardOf write3
+sham-tears = refl
 
 pub inventing-falls : (n : ℕ) → Promised (inventing n) → ⊥
 inventing-falls n f =

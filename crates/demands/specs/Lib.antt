@@ -5,5 +5,6 @@ pub mod Worked
 pub mod Ports
 pub mod Wrong
 pub mod Cases
+pub mod Torn
 pub mod Empty
 pub mod Met

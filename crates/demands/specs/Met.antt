@@ -5,9 +5,10 @@ use mathlib.Core.Bool.{false}
 use mathlib.Core.List.{List, [], _∷_}
 use lib.Dec.{lit≤}
 use lib.ListN.{length, replicate}
-use Rattle.bits.specs.Words.{wordAt, withWord, Store, store}
+use Rattle.bits.specs.Words.{Bytes, wordAt, withWord, Store, store}
 use Rattle.bits.specs.Bits.{fieldAt, bitsOf, wordsBits}
 use Rattle.bits.specs.Below.{below}
+use Rattle.bits.proofs.Words.{are-bytes}
 use Rattle.crc.specs.Crc.{crcOf}
 use Rattle.ebv.specs.Ebv.{pointerAt}
 use Rattle.image.specs.Layout.{layoutOf, headerGood, blocksIn}
@@ -25,6 +26,7 @@ use Rattle.replies.specs.Replies.{checked}
 use Rattle.rights.specs.declared.Code.the-variants as code
 use Rattle.rights.specs.Rights.{readCode, writeCode, lockedTo, lockCode, permaReadCode, permaCode}
 use Rattle.stores.specs.Stores.{powerStores}
+use Rattle.stores.specs.Worked.{worked-bytes}
 use Rattle.tag.specs.declared.Answer.the-variants as answer
 use Rattle.tag.specs.declared.State.the-variants as state
 use Rattle.tag.specs.declared.Outcome.{Outcome}
@@ -33,9 +35,10 @@ use Rattle.tag.specs.Power.{started, powerUpOf}
 use Rattle.tag.specs.Table.{frameOf}
 use Rattle.tag.specs.Port.{writeOf}
 use Rattle.demands.specs.Calls.{Tag, frame, answerOf, Meets, Idle}
-use Rattle.demands.specs.Demands.{Storing, byRadio, byPort, told}
+use Rattle.demands.specs.Demands.{byPort, told, Stores}
 use Rattle.demands.specs.Commands.{Air, Says, Enough, wordsTo}
-use Rattle.demands.specs.Worked.{reqRn, write3, readTwo, secured, usedUp}
+use Rattle.demands.specs.Worked.{reqRn, write3, readTwo, usedUp}
+use Rattle.demands.specs.Torn.{tag, p7}
 use Rattle.demands.specs.Ports.{holding, locked, fourWords}
 
 -- further frames: handle 1234h, cover number 5A5Ah. Req_RN with the handle
@@ -79,15 +82,9 @@ air f bits = record { image = worked; frame = f; bits = bits; fresh = 0x5678; ro
 abbrev Comes : List ℕ → ℕ → ℕ → Order → Reply → List Store → Type 0
 Comes f bits n o rp ws = Says (air f bits) n o × Enough workedLayout (air f bits) rp ws
 
-abbrev tag : Tag
-tag = record { session = secured; image = worked }
-
 -- what a frame call may hand back for P7's Write
 abbrev outcome : Outcome
 outcome = record { answer = answer.Done; session = usedUp; reply = 33; stores = 5; value = 0 }
-
-abbrev p7 : Storing
-p7 = byRadio write3 66 0x1234 (replicate 12 0xAA)
 
 abbrev holder : Tag
 holder = record { session = holding state.Arbitrate false false; image = worked }
@@ -121,12 +118,12 @@ pub record Met : Type 0 where
   pub nak : heardOf (0xC0 ∷ []) 8 ≡ heard.Nak
   pub engine : (2 + 4 ≤ workedLayout .user .words) × (length fourWords ≡ 8)
   -- demand 3: a Write of one word and an SPI write of four, done; the power-ups after their cuts, whole
-  pub radio-done : (answerOf tag (told p7 5) .number ≡ 0) × (answerOf tag (told p7 5) .stores ≡ 5)
+  pub radio-done : Stores workedLayout tag p7 1 5
   pub radio-whole : (powerUpOf (answerOf tag (told p7 2) .image) 257 .number ≡ 0) × (powerUpOf (answerOf tag (told p7 3) .image) 257 .number ≡ 0)
-  pub port-done : (answerOf holder (told (byPort 2 fourWords) 14) .number ≡ 0) × (answerOf holder (told (byPort 2 fourWords) 14) .stores ≡ 14)
+  pub port-done : Stores workedLayout holder (byPort 2 fourWords) 4 14
   pub port-whole : powerUpOf (answerOf holder (told (byPort 2 fourWords) 9) .image) 257 .number ≡ 0
   -- any run: an image with a permalocked block
-  pub locked-block : Idle workedLayout locked × (permalock workedLayout locked 0 ≡ 1)
+  pub locked-block : Bytes locked × Idle workedLayout locked × (permalock workedLayout locked 0 ≡ 1)
 
 pub met : Met
 unfolding checkOf frameOf writeOf powerUpOf started powerStores layoutOf headerGood blocksIn contentGood rulesHold worked wordAt withWord wordsBits bitsOf crcOf fieldAt pointerAt heardOf checksumRight filled packed checked readCode writeCode lockedTo lockCode permaReadCode permaCode reqRn write3 readTwo reqCover kill1 kill2 access lock1 block2 erase2 permaRead perma3
@@ -156,9 +153,9 @@ met =
       permalocks-right = refl;
       nak = refl;
       engine = (lit≤ tt, refl);
-      radio-done = (refl, refl);
+      radio-done = record { bytes = worked-bytes; idle = record { sound = refl; nothing = refl }; some = lit≤ tt; done = refl; stores = refl };
       radio-whole = (refl, refl);
-      port-done = (refl, refl);
+      port-done = record { bytes = worked-bytes; idle = record { sound = refl; nothing = refl }; some = lit≤ tt; done = refl; stores = refl };
       port-whole = refl;
-      locked-block = (record { sound = refl; nothing = refl }, refl);
+      locked-block = (are-bytes locked refl, record { sound = refl; nothing = refl }, refl);
     }
