@@ -36,7 +36,7 @@ use Rattle.tag.specs.declared.Link.{Link}
 use Rattle.tag.specs.Commands.{codeOf, uncovered, placeOf, killWords, wordsAfter}
 use Rattle.tag.specs.Port.{portOpen, portWrites, writtenWords}
 use Rattle.tag.proofs.Plans.{within-bank, perma-small, write-rows, perma-rows, lock-rows}
-use Rattle.demands.proofs.Sound.{Sound, bank-sound, user-sound, lock-sound, killed-sound, perma-sound}
+use Rattle.demands.proofs.Sound.{PairKept, Sound, bank-sound, user-sound, lock-sound, killed-sound, perma-sound}
 
 -- the words ss, as a change of m
 pub record Plan (y : Layout) (m : List ℕ) (ss : List Store) : Type 0 where
@@ -65,13 +65,16 @@ row-plan y m o f n few l h =
       apart = inl (all-below (λ s. s .at < y .perma .at) (λ j. store (o + j) (f j)) n (λ j b. omega arith));
     }
 
--- a pair that does not break keeps its permalock
-pair-kept : (old new k : ℕ) → not (pairBreaks old new k) ≡ true → permaBit old k ≡ 1 → permaBit new k ≡ 1
-pair-kept old new k e p = go (eqb (permaBit new k) 1) (eqb (pwdBit new k) (pwdBit old k)) refl (rw (eq-eqb (permaBit old k) 1 p) at (not-true (pairBreaks old new k) e))
+-- a pair that does not break keeps its bits where it is permalocked
+pair-kept : (old new k : ℕ) → not (pairBreaks old new k) ≡ true → PairKept old new k
+pair-kept old new k e p =
+    go (eqb (permaBit new k) 1) (eqb (pwdBit new k) (pwdBit old k)) refl refl (rw (eq-eqb (permaBit old k) 1 p) at (not-true (pairBreaks old new k) e))
   where
-    go : (t u : Bool) → eqb (permaBit new k) 1 ≡ t → not (t && u) ≡ false → permaBit new k ≡ 1
-    go true u q e = eqb-true _ _ q
-    go false u q e = absurd (true≢false e)
+    go : (t u : Bool) → eqb (permaBit new k) 1 ≡ t → eqb (pwdBit new k) (pwdBit old k) ≡ u → not (t && u) ≡ false
+        → (permaBit new k ≡ 1) × (pwdBit new k ≡ pwdBit old k)
+    go true true q r e = (eqb-true _ _ q, eqb-true _ _ r)
+    go true false q r e = absurd (true≢false e)
+    go false u q r e = absurd (true≢false e)
 
 module _ (y : Layout) (m : List ℕ) (g : Good y m) where
   hd : Header y m

@@ -1,6 +1,6 @@
 -- Any run: each call leaves a good image, keeps what is to be kept, and pending words only of a kind that keeps it; where a word is torn, each of its bits is
 -- the old one or the new one. Assumes nothing.
-use Prim.Native.Nat.{ℕ, suc, _+_, _-_, _*_, _/_, _%_, _^_, _≤_, _<_}
+use Prim.Native.Nat.{ℕ, zero, suc, _+_, _-_, _*_, _/_, _%_, _^_, _≤_, _<_}
 use mathlib.Core.Path.{_≡_, refl, sym, ap, ap₂, _∙_, subst}
 use mathlib.Core.Logic.{_⊎_, inl, inr, ⊎-elim, ⊎-map}
 use mathlib.Core.List.{List, [], _∷_, _++_}
@@ -19,7 +19,7 @@ use Rattle.image.specs.Content.{permalock, countIn, pending}
 use Rattle.image.specs.Rules.{Header, Good}
 use Rattle.image.proofs.Answers.{check-good, good-check}
 use Rattle.image.proofs.Fits.{go-below}
-use Rattle.rights.specs.Rights.{permaBit}
+use Rattle.rights.specs.Rights.{pwdBit, permaBit}
 use Rattle.stores.specs.Stores.{staged, finished, changeStores, settling, epcCrc, powerStores}
 use Rattle.stores.specs.Cuts.{Cut, withByte, cutAfter}
 use Rattle.stores.proofs.Sane.{none-pending}
@@ -30,7 +30,7 @@ use Rattle.tag.specs.Result.{Result, leaves}
 use Rattle.tag.specs.Port.{badCount, refusals, readOf}
 use Rattle.demands.specs.Calls.{Call, powerUp, admit, frame, ask, release, register, read, write, Tag, answerOf, torn, Turn, run}
 use Rattle.demands.specs.Demands.{Storing, byRadio, byPort, told, Kept, AnyRun}
-use Rattle.demands.proofs.Sound.{Keeps, Sound, free-keeps}
+use Rattle.demands.proofs.Sound.{PairKept, Keeps, Sound, free-keeps}
 use Rattle.demands.proofs.Plans.{Plan, no-plan, plan-change}
 use Rattle.demands.proofs.Rows.{Refused, Acting, wordsOf, acts, first-each}
 use Rattle.demands.proofs.Cuts.{power-torn, torn-told}
@@ -53,44 +53,68 @@ all-and : (P Q : Store → Type 0) (ss : List Store) → All P ss → All Q ss �
 all-and P Q [] a b = tt
 all-and P Q (s ∷ ss) a b = ((a .0, b .0), all-and P Q ss (a .1) (b .1))
 
--- each bit of v is that of a or that of p
+-- each byte of v is that of a or that of p
 record Between (a p v : ℕ) : Type 0 where
-  same : p ≡ a → v ≡ a
-  bits : (t : ℕ) → (v / 2 ^ t % 2 ≡ a / 2 ^ t % 2) ⊎ (v / 2 ^ t % 2 ≡ p / 2 ^ t % 2)
+  high : (v / 256 ≡ a / 256) ⊎ (v / 256 ≡ p / 256)
+  low : (v % 256 ≡ a % 256) ⊎ (v % 256 ≡ p % 256)
 
 between-old : (a p v : ℕ) → v ≡ a → Between a p v
-between-old a p v e = record { same = λ q. e; bits = λ t. inl (ap (λ (x : ℕ). x / 2 ^ t % 2) e) }
+between-old a p v e = record { high = inl (ap (λ (x : ℕ). x / 256) e); low = inl (ap (λ (x : ℕ). x % 256) e) }
 
 between-new : (a p v : ℕ) → v ≡ p → Between a p v
-between-new a p v e = record { same = λ q. e ∙ q; bits = λ t. inr (ap (λ (x : ℕ). x / 2 ^ t % 2) e) }
-
--- the low eight bits are those of the low byte, the others those of the rest
-low-bit : (n t : ℕ) → t < 8 → n / 2 ^ t % 2 ≡ n % 256 / 2 ^ t % 2
-low-bit n t l =
-    let e : 7 - t + 1 + t ≡ 8 = omega arith in
-    sym (mod-mod-pow (n / 2 ^ t) (7 - t) 1) ∙ ap (λ (x : ℕ). x % 2) (sym (field n (7 - t + 1) t) ∙ ap (λ (x : ℕ). n % 2 ^ x / 2 ^ t) e)
-
-high-bit : (n t : ℕ) → 8 ≤ t → n / 2 ^ t % 2 ≡ n / 256 / 2 ^ (t - 8) % 2
-high-bit n t l = let e : 8 + (t - 8) ≡ t = omega arith in ap (λ (x : ℕ). x % 2) (sym (shr-shr n 8 (t - 8) ∙ ap (λ (x : ℕ). n / 2 ^ x) e))
-
-joined-bit : (a b t : ℕ) → (joined a b / 2 ^ t % 2 ≡ a / 2 ^ t % 2) ⊎ (joined a b / 2 ^ t % 2 ≡ b / 2 ^ t % 2)
-joined-bit a b t = go (decLt t 8)
-  where
-    go : Dec (t < 8) → (joined a b / 2 ^ t % 2 ≡ a / 2 ^ t % 2) ⊎ (joined a b / 2 ^ t % 2 ≡ b / 2 ^ t % 2)
-    go (yes l) =
-        let e : joined a b % 256 ≡ b % 256 = omega arith in
-        inr (low-bit (joined a b) t l ∙ ap (λ (x : ℕ). x / 2 ^ t % 2) e ∙ sym (low-bit b t l))
-    go (no l) =
-        let e : joined a b / 256 ≡ a / 256 = omega arith in
-        let h : 8 ≤ t = omega arith in
-        inl (high-bit (joined a b) t h ∙ ap (λ (x : ℕ). x / 2 ^ (t - 8) % 2) e ∙ sym (high-bit a t h))
+between-new a p v e = record { high = inr (ap (λ (x : ℕ). x / 256) e); low = inr (ap (λ (x : ℕ). x % 256) e) }
 
 between-joined : (w p a b : ℕ) → Between w p a → Between w p b → Between w p (joined a b)
 between-joined w p a b f g =
-    record {
-      same = λ q. omega (arith, f .same q, g .same q);
-      bits = λ t. ⊎-elim (λ e. ⊎-map (λ d. e ∙ d) (λ d. e ∙ d) (f .bits t)) (λ e. ⊎-map (λ d. e ∙ d) (λ d. e ∙ d) (g .bits t)) (joined-bit a b t);
-    }
+    let h : joined a b / 256 ≡ a / 256 = omega arith in
+    let l : joined a b % 256 ≡ b % 256 = omega arith in
+    record { high = ⊎-map (λ e. h ∙ e) (λ e. h ∙ e) (f .high); low = ⊎-map (λ e. l ∙ e) (λ e. l ∙ e) (g .low) }
+
+between-same : (a p v : ℕ) → Between a p v → p ≡ a → v ≡ a
+between-same a p v b e = go (b .high) (b .low)
+  where
+    go : (v / 256 ≡ a / 256) ⊎ (v / 256 ≡ p / 256) → (v % 256 ≡ a % 256) ⊎ (v % 256 ≡ p % 256) → v ≡ a
+    go (inl h) (inl l) = omega arith
+    go (inl h) (inr l) = omega arith
+    go (inr h) (inl l) = omega arith
+    go (inr h) (inr l) = omega arith
+
+-- words with the same low byte have the same low eight bits, and so the others
+low-bits : (v a t : ℕ) → t < 8 → v % 256 ≡ a % 256 → v / 2 ^ t % 2 ≡ a / 2 ^ t % 2
+low-bits v a t l e = bit v ∙ ap (λ (x : ℕ). x / 2 ^ t % 2) e ∙ sym (bit a)
+  where
+    bit : (n : ℕ) → n / 2 ^ t % 2 ≡ n % 256 / 2 ^ t % 2
+    bit n =
+        let e : 7 - t + 1 + t ≡ 8 = omega arith in
+        sym (mod-mod-pow (n / 2 ^ t) (7 - t) 1) ∙ ap (λ (x : ℕ). x % 2) (sym (field n (7 - t + 1) t) ∙ ap (λ (x : ℕ). n % 2 ^ x / 2 ^ t) e)
+
+high-bits : (v a t : ℕ) → 8 ≤ t → v / 256 ≡ a / 256 → v / 2 ^ t % 2 ≡ a / 2 ^ t % 2
+high-bits v a t l e = bit v ∙ ap (λ (x : ℕ). x / 2 ^ (t - 8) % 2) e ∙ sym (bit a)
+  where
+    bit : (n : ℕ) → n / 2 ^ t % 2 ≡ n / 256 / 2 ^ (t - 8) % 2
+    bit n = let e : 8 + (t - 8) ≡ t = omega arith in ap (λ (x : ℕ). x % 2) (sym (shr-shr n 8 (t - 8) ∙ ap (λ (x : ℕ). n / 2 ^ x) e))
+
+-- a bit of v, and a pair's two bits, which stand in one byte
+between-bit : (a p v t : ℕ) → Between a p v → (v / 2 ^ t % 2 ≡ a / 2 ^ t % 2) ⊎ (v / 2 ^ t % 2 ≡ p / 2 ^ t % 2)
+between-bit a p v t b = go (decLt t 8)
+  where
+    go : Dec (t < 8) → (v / 2 ^ t % 2 ≡ a / 2 ^ t % 2) ⊎ (v / 2 ^ t % 2 ≡ p / 2 ^ t % 2)
+    go (yes l) = ⊎-map (low-bits v a t l) (low-bits v p t l) (b .low)
+    go (no l) = let h : 8 ≤ t = omega arith in ⊎-map (high-bits v a t h) (high-bits v p t h) (b .high)
+
+SamePair : ℕ → ℕ → ℕ → Type 0
+SamePair v a k = (permaBit v k ≡ permaBit a k) × (pwdBit v k ≡ pwdBit a k)
+
+between-pair : (a p v k : ℕ) → Between a p v → SamePair v a k ⊎ SamePair v p k
+unfolding SamePair
+between-pair a p v zero b =
+    let h : 8 ≤ 8 = omega arith in
+    let i : 8 ≤ 9 = omega arith in
+    ⊎-map (λ e. (high-bits v a 8 h e, high-bits v a 9 i e)) (λ e. (high-bits v p 8 h e, high-bits v p 9 i e)) (b .high)
+between-pair a p v (suc k) b =
+    let h : 8 - 2 * suc k < 8 = omega arith in
+    let i : 9 - 2 * suc k < 8 = omega arith in
+    ⊎-map (λ e. (low-bits v a (8 - 2 * suc k) h e, low-bits v a (9 - 2 * suc k) i e)) (λ e. (low-bits v p (8 - 2 * suc k) h e, low-bits v p (9 - 2 * suc k) i e)) (b .low)
 
 -- where a word of an image may come from: the image m, EPC word 0, or between m and the words ss, which f tells by their places
 abbrev Comes : Layout → List ℕ → List Store → (ℕ → ℕ) → ℕ → ℕ → Type 0
@@ -162,7 +186,7 @@ module _ (y : Layout) (m : List ℕ) (g : Header y m) where
       record {
         header = λ l. e;
         tid = λ l n. e;
-        locks = λ q k l p. ap (λ (x : ℕ). permaBit x k) e ∙ p;
+        locks = λ q k l p. (ap (λ (x : ℕ). permaBit x k) e ∙ p, ap (λ (x : ℕ). pwdBit x k) e);
         blocks = λ l n t p. ap (λ (x : ℕ). x / 2 ^ t % 2) e ∙ p;
         words = λ l n p. e;
       }
@@ -188,14 +212,19 @@ module _ (y : Layout) (m n : List ℕ) (ss : List Store) (g : Good y m) (h : Goo
   put-keeps i v q = puts-all (Sound y m) ss (p .sound) i v q .keeps
 
   between-keeps : (i v u : ℕ) → Keeps y m i v → Between (wordAt m i) v u → Keeps y m i u
+  unfolding SamePair
   between-keeps i v u k b =
       record {
-        header = λ l. b .same (k .header l);
-        tid = λ l n. b .same (k .tid l n);
-        locks = λ q j l e. ⊎-elim (λ d. d ∙ e) (λ d. d ∙ k .locks q j l e) (b .bits (8 - 2 * j));
-        blocks = λ l n t e. ⊎-elim (λ d. d ∙ e) (λ d. d ∙ k .blocks l n t e) (b .bits t);
-        words = λ l n e. b .same (k .words l n e);
+        header = λ l. same (k .header l);
+        tid = λ l n. same (k .tid l n);
+        locks = λ q j l e.
+            (let s = k .locks q j l e in ⊎-elim (λ d. (d .0 ∙ e, d .1)) (λ d. (d .0 ∙ s .0, d .1 ∙ s .1)) (between-pair (wordAt m i) v u j b));
+        blocks = λ l n t e. ⊎-elim (λ d. d ∙ e) (λ d. d ∙ k .blocks l n t e) (between-bit (wordAt m i) v u t b);
+        words = λ l n e. same (k .words l n e);
       }
+    where
+      same : v ≡ wordAt m i → u ≡ wordAt m i
+      same = between-same (wordAt m i) v u b
 
   words-keep : Fine (y .work .at) (Keeps y m) n
   words-keep i l = go (c i l)
@@ -207,6 +236,7 @@ module _ (y : Layout) (m n : List ℕ) (ss : List Store) (g : Good y m) (h : Goo
 
   -- a word that a store of ss goes to has its old value or that store's, or is EPC word 0
   put-again : (i v : ℕ) → i < y .work .at → Puts ss i v → Keeps y n i v
+  unfolding SamePair
   put-again i v l q = go (c i l)
     where
       k : Keeps y m i v
@@ -229,15 +259,23 @@ module _ (y : Layout) (m n : List ℕ) (ss : List Store) (g : Good y m) (h : Goo
               ⊎-elim (λ u. absurd (omega (arith, l, puts-all (λ s. s .at < y .perma .at) ss u j (p .value j) (r .0))))
               (λ u. absurd (omega (arith, hd, b, puts-all (λ s. y .perma .at ≤ s .at) ss u i v q))) (p .apart)
 
+      -- what stands in n came from m or from the store itself
       still : Between (wordAt m i) v (wordAt n i) → Keeps y n i v
       still b =
           record {
-            header = λ l. k .header l ∙ sym (b .same (k .header l));
-            tid = λ l n. k .tid l n ∙ sym (b .same (k .tid l n));
-            locks = λ z j l e. ⊎-elim (λ d. k .locks z j l (sym d ∙ e)) (λ d. sym d ∙ e) (b .bits (8 - 2 * j));
-            blocks = λ l n t e. ⊎-elim (λ d. k .blocks l n t (sym d ∙ e)) (λ d. sym d ∙ e) (b .bits t);
-            words = λ l n e. (let r = k .words l n (sym (perma-same l n) ∙ e) in r ∙ sym (b .same r));
+            header = λ l. back (k .header l);
+            tid = λ l n. back (k .tid l n);
+            locks = λ z j l e. ⊎-elim (λ d. pair z j l (d .0) (d .1) e) (λ d. (sym (d .0) ∙ e, sym (d .1))) (between-pair (wordAt m i) v (wordAt n i) j b);
+            blocks = λ l h t e. ⊎-elim (λ d. k .blocks l h t (sym d ∙ e)) (λ d. sym d ∙ e) (between-bit (wordAt m i) v (wordAt n i) t b);
+            words = λ l n e. back (k .words l n (sym (perma-same l n) ∙ e));
           }
+        where
+          back : v ≡ wordAt m i → v ≡ wordAt n i
+          back e = e ∙ sym (between-same (wordAt m i) v (wordAt n i) b e)
+
+          pair : i ≡ y .status .at → (j : ℕ) → j < 5 → permaBit (wordAt n i) j ≡ permaBit (wordAt m i) j → pwdBit (wordAt n i) j ≡ pwdBit (wordAt m i) j
+              → PairKept (wordAt n i) v j
+          pair z j l c d e = let s = k .locks z j l (sym c ∙ e) in (s .0, s .1 ∙ sym d)
 
       go : Comes y m ss (p .value) i (wordAt n i) → Keeps y n i v
       go (inl e) = still (between-old (wordAt m i) v (wordAt n i) e)
@@ -353,7 +391,7 @@ keeps-then y m n g f i v l k =
     record {
       header = λ a. k .header a ∙ f i l .header a;
       tid = λ a b. k .tid a b ∙ f i l .tid a b;
-      locks = λ q j a e. k .locks q j a (f i l .locks q j a e);
+      locks = λ q j a e. (let s = f i l .locks q j a e in let r = k .locks q j a (s .0) in (r .0, r .1 ∙ s .1));
       blocks = λ a b t e. k .blocks a b t (f i l .blocks a b t e);
       words = λ a b e. k .words a b (locked a b e) ∙ f i l .words a b e;
     }
@@ -388,7 +426,8 @@ kept y m n g s =
       sound = good-check y n (s .steady .sound);
       header = λ i l. f i (omega arith) .header l;
       tid = λ i a b. f i (omega arith) .tid a b;
-      locks = λ k l e. f (y .status .at) (omega arith) .locks refl k l e;
+      locks = λ k l e. f (y .status .at) (omega arith) .locks refl k l e .0;
+      pairs = λ k l e. f (y .status .at) (omega arith) .locks refl k l e .1;
       blocks = λ b l e. (let w : b / 16 < y .perma .words = perma-word y m hd b l in
           f (y .perma .at + b / 16) (omega (arith, w)) .blocks (omega arith) (omega (arith, w)) (15 - b % 16) e);
       words = λ i l e. (let z : y .user .at + i - y .user .at ≡ i = omega arith in

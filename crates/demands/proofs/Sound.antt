@@ -17,13 +17,17 @@ use Rattle.image.specs.Content.{permalock, lengthOf, mayGo}
 use Rattle.image.specs.Rules.{Header, Content}
 use Rattle.image.specs.Steps.{spareIn}
 use Rattle.image.proofs.Fits.{Ok, ok-if, go-low, go-high, spare-least, spare-most, spare-word, spare-bit}
-use Rattle.rights.specs.Rights.{bankOf, permaBit, opens, pairOf, blockOpen, mayWrite}
+use Rattle.rights.specs.Rights.{bankOf, pwdBit, permaBit, opens, pairOf, blockOpen, mayWrite}
+
+-- a pair that is permalocked in the lock word a keeps both its bits in v
+abbrev pub PairKept : ℕ → ℕ → ℕ → Type 0
+PairKept a v k = permaBit a k ≡ 1 → (permaBit v k ≡ 1) × (pwdBit v k ≡ pwdBit a k)
 
 -- v may stand at word i of an image that came from m: header, TID, permalocks and the words of permalocked blocks are as they were
 pub record Keeps (y : Layout) (m : List ℕ) (i v : ℕ) : Type 0 where
   pub header : i < 16 → v ≡ wordAt m i
   pub tid : y .tid .at ≤ i → i < end (y .tid) → v ≡ wordAt m i
-  pub locks : i ≡ y .status .at → (k : ℕ) → k < 5 → permaBit (wordAt m i) k ≡ 1 → permaBit v k ≡ 1
+  pub locks : i ≡ y .status .at → (k : ℕ) → k < 5 → PairKept (wordAt m i) v k
   pub blocks : y .perma .at ≤ i → i < end (y .perma) → (t : ℕ) → wordAt m i / 2 ^ t % 2 ≡ 1 → v / 2 ^ t % 2 ≡ 1
   pub words : y .user .at ≤ i → i < end (y .user) → permalock y m ((i - y .user .at) / y .block) ≡ 1 → v ≡ wordAt m i
 
@@ -47,7 +51,7 @@ module _ (y : Layout) (m : List ℕ) (g : Header y m) where
       record {
         header = λ l. absurd (omega arith);
         tid = λ l n. absurd (omega arith);
-        locks = λ q k l e. absurd (omega arith);
+        locks = λ q k l. absurd (omega arith);
         blocks = λ l n t e. absurd (omega arith);
         words = λ l n e. absurd (omega arith);
       }
@@ -80,7 +84,7 @@ module _ (y : Layout) (m : List ℕ) (g : Header y m) where
             record {
               header = λ l. absurd (omega arith);
               tid = λ l n. absurd (omega arith);
-              locks = λ q k l e. absurd (omega arith);
+              locks = λ q k l. absurd (omega arith);
               blocks = λ l n t e. absurd (omega arith);
               words = λ l n e. absurd (closed e);
             };
@@ -94,7 +98,7 @@ module _ (y : Layout) (m : List ℕ) (g : Header y m) where
           omega (arith, p, q)
 
   -- the lock word: ten bits, and each permalock stays
-  pub lock-sound : (v : ℕ) → v < 1024 → ((k : ℕ) → k < 5 → permaBit (wordAt m (y .status .at)) k ≡ 1 → permaBit v k ≡ 1) → Sound y m (store (y .status .at) v)
+  pub lock-sound : (v : ℕ) → v < 1024 → ((k : ℕ) → k < 5 → PairKept (wordAt m (y .status .at)) v k) → Sound y m (store (y .status .at) v)
   lock-sound v l h =
       record {
         goes = go-low y m g (y .status .at) (omega arith) (omega arith);
@@ -103,7 +107,7 @@ module _ (y : Layout) (m : List ℕ) (g : Header y m) where
             record {
               header = λ l. absurd (omega arith);
               tid = λ l n. absurd (omega arith);
-              locks = λ q k l e. h k l e;
+              locks = λ q k l. h k l;
               blocks = λ l n t e. absurd (omega arith);
               words = λ l n e. absurd (omega arith);
             };
@@ -130,7 +134,7 @@ module _ (y : Layout) (m : List ℕ) (g : Header y m) where
             record {
               header = λ l. absurd (omega arith);
               tid = λ l n. absurd (omega arith);
-              locks = λ q k l e. absurd (omega arith);
+              locks = λ q k l. absurd (omega arith);
               blocks = λ l n t e. or-keeps (wordAt m (y .perma .at + i)) b t e;
               words = λ l n e. absurd (omega arith);
             };

@@ -14,7 +14,7 @@ use Rattle.image.specs.Check.{checkOf, meaning, good}
 use Rattle.replies.specs.declared.Reply.the-variants as reply
 use Rattle.replies.specs.Replies.{replyBits}
 use Rattle.replies.specs.Pack.{packed}
-use Rattle.rights.specs.Rights.{permaBit}
+use Rattle.rights.specs.Rights.{pwdBit, permaBit}
 use Rattle.stores.specs.Cuts.{Cut, reaches}
 use Rattle.tag.specs.declared.State.the-variants as state
 use Rattle.tag.specs.declared.Session.{Session}
@@ -103,12 +103,14 @@ Demand3 =
     → (f : Cut) (fs : List Cut) → Unbroken y t c n enough (reaches y f) (powerUps fs (torn t (told c (f .whole)) (f .byte)))
 
 -- So, through any run of commands, SPI transfers, admissions, cuts and power-ups from such an image, with any inputs and any sessions: from any point of
--- the run to any later one the image stays good, header and TID stay, no permalock is taken off, and no USER word of a permalocked block changes.
+-- the run to any later one the image stays good, header and TID stay, no permalock is taken off, the pwd bit of a permalocked pair stays, and no USER word of a
+-- permalocked block changes.
 pub record Kept (y : Layout) (m n : List ℕ) : Type 0 where
   pub sound : checkOf n ≡ good y
   pub header : (i : ℕ) → i < 16 → wordAt n i ≡ wordAt m i
   pub tid : (i : ℕ) → y .tid .at ≤ i → i < end (y .tid) → wordAt n i ≡ wordAt m i
   pub locks : (k : ℕ) → k < 5 → permaBit (lockWord y m) k ≡ 1 → permaBit (lockWord y n) k ≡ 1
+  pub pairs : (k : ℕ) → k < 5 → permaBit (lockWord y m) k ≡ 1 → pwdBit (lockWord y n) k ≡ pwdBit (lockWord y m) k
   pub blocks : (b : ℕ) → b < blocksIn y → permalock y m b ≡ 1 → permalock y n b ≡ 1
   pub words : (i : ℕ) → i < y .user .words → permalock y m (i / y .block) ≡ 1 → wordAt n (y .user .at + i) ≡ wordAt m (y .user .at + i)
 
