@@ -8,3 +8,4 @@ pub mod Cases
 pub mod Torn
 pub mod Empty
 pub mod Met
+pub mod Answers
