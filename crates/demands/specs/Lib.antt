@@ -9,3 +9,4 @@ pub mod Torn
 pub mod Empty
 pub mod Met
 pub mod Answers
+pub mod Refusals

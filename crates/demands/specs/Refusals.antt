@@ -1,0 +1,211 @@
+-- WHEN a frame is refused (RULES 5.1 to 5.10 and 5.12), line by line in the rules' own terms: of any program A. Each line stands under the ones before it: an
+-- image that is good with nothing pending, a free port, a frame that says an order with its CRC-16 right, a state that hears it. Assumes nothing.
+use Prim.Native.Nat.{ℕ, _+_, _-_, _*_, _%_, _≤_, _<_}
+use mathlib.Core.Path.{_≡_}
+use mathlib.Core.Logic.{_≢_, _⊎_}
+use mathlib.Core.Bool.{Bool, true, false}
+use mathlib.Core.List.{List, []}
+use lib.Bits.{bitXor}
+use lib.ListN.{length}
+use Rattle.bits.specs.Bits.{bitAt, fieldAt}
+use Rattle.image.specs.declared.Layout.{Layout}
+use Rattle.image.specs.Layout.{blocksIn, pairsIn}
+use Rattle.image.specs.Content.{lockWord, lengthOf, permalock, countIn}
+use Rattle.image.specs.Check.{checkOf, refused, good}
+use Rattle.frames.specs.declared.Span.{Span}
+use Rattle.frames.specs.declared.Order.{Order}
+use Rattle.frames.specs.declared.Order.the-variants as order
+use Rattle.frames.specs.declared.Command.{Command}
+use Rattle.frames.specs.declared.Heard.the-variants as heard
+use Rattle.frames.specs.Frames.{span, heardOf, checksumRight}
+use Rattle.replies.specs.declared.Reply.the-variants as reply
+use Rattle.replies.specs.Replies.{replyBits}
+use Rattle.replies.specs.Pack.{packed}
+use Rattle.rights.specs.Rights.{bankOf, pwdBit, permaBit, mayRead, mayWrite, lockedTo}
+use Rattle.tag.specs.declared.Cover.{Cover}
+use Rattle.tag.specs.declared.Cover.the-variants as cover
+use Rattle.tag.specs.declared.Half.{Half}
+use Rattle.tag.specs.declared.Half.the-variants as half
+use Rattle.tag.specs.declared.Register.{Register}
+use Rattle.tag.specs.declared.State.{State}
+use Rattle.tag.specs.declared.State.the-variants as state
+use Rattle.tag.specs.declared.Session.{Session}
+use Rattle.tag.specs.Session.{offSession, on}
+use Rattle.tag.specs.Result.{Result, leaves}
+use Rattle.tag.specs.Commands.{accessWord, killWord}
+use Rattle.demands.specs.Calls.{Call, frame, Tag, Idle}
+use Rattle.demands.specs.Commands.{Air, linked, link, Says}
+
+-- a program: what it answers to a call of a tag
+abbrev pub Program : Type 0
+Program = Tag → Call → Result
+
+-- its answer to the frame of a; with everything as before
+abbrev pub hears : Program → Air → Session → Result
+hears A a s = A (record { session = s; image = a .image }) (frame (a .frame) (a .bits) (a .fresh) (a .room) (a .power))
+
+abbrev pub stays : ℕ → Air → Session → Result
+stays n a s = leaves n s (a .image) (a .room)
+
+-- Arbitrate, no reply, the image as before; port and register stay
+abbrev pub drops : Air → Register → Result
+drops a r = leaves 12 (on state.Arbitrate false r) (a .image) (a .room)
+
+-- the error reply of 41 bits; the cover number is used up
+abbrev pub errs : Air → Register → Bool → ℕ → Half → ℕ → Result
+errs a r q h p e =
+    record {
+      number = 10;
+      session = on (linked q (link h cover.Nothing p)) false r;
+      reply = 41;
+      stores = 0;
+      value = 0;
+      image = a .image;
+      room = packed (replyBits (a .image) (reply.Error e h)) (a .room);
+    }
+
+-- 3.13, 3.14, 3.17 and 3.20: what a command needs beside the handle: Secured, a cover number, a range of at least 1, an RFU byte 0
+abbrev pub Covered : Cover → Type 0
+Covered cover.Nothing = ⊥
+Covered (cover.Number n) = Unit {0}
+
+abbrev pub Needs : Bool → Cover → Order → Type 0
+Needs q c order.ReqRn = Unit {0}
+Needs q c (order.Read s) = Unit {0}
+Needs q c (order.Write s w) = Covered c
+Needs q c (order.Kill h) = Covered c
+Needs q c (order.Lock mask action) = q ≡ true
+Needs q c (order.Access h) = Covered c
+Needs q c (order.BlockWrite s p) = 1 ≤ s .count
+Needs q c (order.BlockErase s) = 1 ≤ s .count
+Needs q c (order.ReadPermalock rfu s) = (q ≡ true) × (rfu ≡ 0) × (1 ≤ s .count)
+Needs q c (order.Permalock rfu s p) = (q ≡ true) × (rfu ≡ 0) × (1 ≤ s .count)
+
+-- 3.15: between the halves of a password any command is another but Req_RN and the one that brings the second half
+abbrev pub Other : Half → Order → Type 0
+Other half.Nothing o = ⊥
+Other (half.Access up) o = (o ≢ order.ReqRn) × ((h : ℕ) → o ≢ order.Access h)
+Other (half.Kill up) o = (o ≢ order.ReqRn) × ((h : ℕ) → o ≢ order.Kill h)
+
+-- 3.20: n words of a bank of so many, from word p on, end within it
+abbrev pub Within : ℕ → ℕ → ℕ → Type 0
+Within words p n = (p < words) × (p + n ≤ words)
+
+abbrev pub Past : ℕ → ℕ → ℕ → Type 0
+Past words p n = (words ≤ p) ⊎ (words < p + n)
+
+-- the PC is among n words of bank b from p on
+abbrev pub TakesPc : ℕ → ℕ → ℕ → Type 0
+TakesPc b p n = (b ≡ 1) × (p ≤ 1) × (1 < p + n)
+
+-- every one of n words from p on may be written
+abbrev pub AllRight : Layout → List ℕ → Bool → ℕ → ℕ → ℕ → Type 0
+AllRight y m q b p n = (j : ℕ) → j < n → mayWrite y m q b (p + j) ≡ true
+
+-- what a Write, BlockWrite or BlockErase brings for EPC word 1
+abbrev pub Brings : Air → Cover → Order → ℕ → ℕ → ℕ → ℕ → Type 0
+Brings a c order.ReqRn b p n pc = ⊥
+Brings a c (order.Read s) b p n pc = ⊥
+Brings a (cover.Number k) (order.Write s w) b p n pc = (s ≡ span b p 1) × (n ≡ 1) × (pc ≡ bitXor w k)
+Brings a cover.Nothing (order.Write s w) b p n pc = ⊥
+Brings a c (order.Kill h) b p n pc = ⊥
+Brings a c (order.Lock mask action) b p n pc = ⊥
+Brings a c (order.Access h) b p n pc = ⊥
+Brings a c (order.BlockWrite s at) b p n pc = (s ≡ span b p n) × (1 ≤ n) × (pc ≡ fieldAt (a .frame) (at + 16 * (1 - p)) 16)
+Brings a c (order.BlockErase s) b p n pc = (s ≡ span b p n) × (1 ≤ n) × (pc ≡ 0)
+Brings a c (order.ReadPermalock rfu s) b p n pc = ⊥
+Brings a c (order.Permalock rfu s at) b p n pc = ⊥
+
+-- an image, or a session, that no frame is heard with
+pub record Unready (A : Program) (a : Air) : Type 0 where
+  pub bad-image : (s : Session) (n : ℕ) → checkOf (a .image) ≡ refused n → hears A a s ≡ stays n a s
+  pub off : (y : Layout) → checkOf (a .image) ≡ good y → hears A a offSession ≡ stays 5 a offSession
+  pub pends : (y : Layout) (s : Session) → checkOf (a .image) ≡ good y → countIn y (a .image) ≢ 0 → hears A a s ≡ stays 5 a s
+  pub held : (y : Layout) (st : State) (r : Register) → Idle y (a .image) → hears A a (on st true r) ≡ stays 6 a (on st true r)
+
+-- a frame that is none, or has a wrong CRC-16
+pub record Unheard (A : Program) (a : Air) (st : State) (r : Register) : Type 0 where
+  pub malformed : heardOf (a .frame) (a .bits) ≡ heard.Malformed → hears A a (on st false r) ≡ stays 7 a (on st false r)
+  pub checksum : (c : Command) → heardOf (a .frame) (a .bits) ≡ heard.Said c → checksumRight (a .frame) (a .bits) ≡ false
+      → hears A a (on st false r) ≡ stays 8 a (on st false r)
+
+-- a command that the session is not in a state for
+pub record Wrong (A : Program) (a : Air) (r : Register) : Type 0 where
+  pub arbitrate : (n : ℕ) (o : Order) → Says a n o → hears A a (on state.Arbitrate false r) ≡ stays 9 a (on state.Arbitrate false r)
+  pub killed : (n : ℕ) (o : Order) → Says a n o → hears A a (on state.Killed false r) ≡ stays 9 a (on state.Killed false r)
+  pub killed-nak : heardOf (a .frame) (a .bits) ≡ heard.Nak → hears A a (on state.Killed false r) ≡ stays 9 a (on state.Killed false r)
+  -- another number than the admission's, or another command than Req_RN
+  pub admission : (m n : ℕ) (o : Order) → Says a n o → (n ≢ m) ⊎ (o ≢ order.ReqRn)
+      → hears A a (on (state.Acknowledged m) false r) ≡ stays 9 a (on (state.Acknowledged m) false r)
+  -- another number than the handle, or not what the command needs
+  pub handle : (q : Bool) (h : ℕ) (c : Cover) (p : Half) (n : ℕ) (o : Order) → Says a n o → (n ≢ h) ⊎ (Needs q c o → ⊥)
+      → hears A a (on (linked q (link h c p)) false r) ≡ stays 9 a (on (linked q (link h c p)) false r)
+
+-- a password that is wrong, or whose halves are broken; c is the cover number
+pub record Dropped (A : Program) (y : Layout) (a : Air) (r : Register) : Type 0 where
+  pub access : (q : Bool) (h c up w : ℕ) → Says a h (order.Access w)
+      → (up ≢ accessWord y (a .image) 0) ⊎ (bitXor w c ≢ accessWord y (a .image) 1)
+      → hears A a (on (linked q (link h (cover.Number c) (half.Access up))) false r) ≡ drops a r
+  pub kill : (q : Bool) (h c up w : ℕ) → Says a h (order.Kill w)
+      → (up ≢ killWord y (a .image) 0) ⊎ (bitXor w c ≢ killWord y (a .image) 1)
+      → hears A a (on (linked q (link h (cover.Number c) (half.Kill up))) false r) ≡ drops a r
+  pub between : (q : Bool) (h : ℕ) (c : Cover) (p : Half) (o : Order) → Says a h o → Needs q c o → Other p o
+      → hears A a (on (linked q (link h c p)) false r) ≡ drops a r
+
+-- an error code, no half waiting and room for the reply
+pub record Errors (A : Program) (y : Layout) (a : Air) (r : Register) (q : Bool) (h : ℕ) (c : Cover) : Type 0 where
+  -- Read
+  pub read-past : (b p n : ℕ) → Says a h (order.Read (span b p n)) → Past (bankOf y b .words) p n
+      → hears A a (on (linked q (link h c half.Nothing)) false r) ≡ errs a r q h half.Nothing 0x03
+  pub read-right : (b p n j : ℕ) → Says a h (order.Read (span b p n)) → Within (bankOf y b .words) p n
+      → (j < n) ⊎ ((n ≡ 0) × (p + j < bankOf y b .words)) → mayRead y (a .image) q b (p + j) ≡ false
+      → hears A a (on (linked q (link h c half.Nothing)) false r) ≡ errs a r q h half.Nothing 0x04
+  -- the writing commands, in order: past the end, a word that lacks the right, a PC whose length doesn't fit, more words than W
+  pub write-past : (o : Order) (b p n pc : ℕ) → Says a h o → Brings a c o b p n pc → Past (bankOf y b .words) p n
+      → hears A a (on (linked q (link h c half.Nothing)) false r) ≡ errs a r q h half.Nothing 0x03
+  pub write-right : (o : Order) (b p n pc j : ℕ) → Says a h o → Brings a c o b p n pc → Within (bankOf y b .words) p n
+      → j < n → mayWrite y (a .image) q b (p + j) ≡ false
+      → hears A a (on (linked q (link h c half.Nothing)) false r) ≡ errs a r q h half.Nothing 0x04
+  pub write-pc : (o : Order) (b p n pc : ℕ) → Says a h o → Brings a c o b p n pc → Within (bankOf y b .words) p n
+      → AllRight y (a .image) q b p n → TakesPc b p n → y .epc .words < lengthOf pc + 2
+      → hears A a (on (linked q (link h c half.Nothing)) false r) ≡ errs a r q h half.Nothing 0x03
+  pub write-many : (o : Order) (b p n pc : ℕ) → Says a h o → Brings a c o b p n pc → Within (bankOf y b .words) p n
+      → AllRight y (a .image) q b p n → (TakesPc b p n → lengthOf pc + 2 ≤ y .epc .words) → pairsIn y < n
+      → hears A a (on (linked q (link h c half.Nothing)) false r) ≡ errs a r q h half.Nothing 0x00
+  -- the first Kill with a zero kill password
+  pub kill-zero : (k w : ℕ) → c ≡ cover.Number k → Says a h (order.Kill w) → killWord y (a .image) 0 ≡ 0 → killWord y (a .image) 1 ≡ 0
+      → hears A a (on (linked q (link h c half.Nothing)) false r) ≡ errs a r q h half.Nothing 0x00
+
+-- the same for Lock and BlockPermalock, which work in Secured
+pub record Locks (A : Program) (y : Layout) (a : Air) (r : Register) (h : ℕ) (c : Cover) : Type 0 where
+  -- Lock: a permalocked pair would lose its permalock or change its pwd bit
+  pub lock-pair : (mask action k : ℕ) → Says a h (order.Lock mask action) → k < 5
+      → let old = lockWord y (a .image) in let new = lockedTo old mask action in
+      permaBit old k ≡ 1 → (permaBit new k ≢ 1) ⊎ (pwdBit new k ≢ pwdBit old k)
+      → hears A a (on (state.Secured (link h c half.Nothing)) false r) ≡ errs a r true h half.Nothing 0x04
+  -- Lock: with a USER mask bit set it would leave USER at 01 while a block is permalocked
+  pub lock-user : (mask action b : ℕ) → Says a h (order.Lock mask action) → mask % 4 ≢ 0
+      → let new = lockedTo (lockWord y (a .image)) mask action in
+      pwdBit new 4 ≡ 0 → permaBit new 4 ≡ 1 → b < blocksIn y → permalock y (a .image) b ≢ 0
+      → hears A a (on (state.Secured (link h c half.Nothing)) false r) ≡ errs a r true h half.Nothing 0x04
+  -- BlockPermalock that reads: another bank than USER, or a range past PERMA
+  pub perma-read : (b p n : ℕ) → Says a h (order.ReadPermalock 0 (span b p n)) → 1 ≤ n → (b ≢ 3) ⊎ (y .perma .words < p + n)
+      → hears A a (on (state.Secured (link h c half.Nothing)) false r) ≡ errs a r true h half.Nothing 0x03
+  -- one that locks: the same; a mask bit of a block that doesn't exist; USER at 01
+  pub perma-past : (b p n at : ℕ) → Says a h (order.Permalock 0 (span b p n) at) → 1 ≤ n → (b ≢ 3) ⊎ (y .perma .words < p + n)
+      → hears A a (on (state.Secured (link h c half.Nothing)) false r) ≡ errs a r true h half.Nothing 0x03
+  pub perma-mask : (p n at k : ℕ) → Says a h (order.Permalock 0 (span 3 p n) at) → 1 ≤ n → p + n ≤ y .perma .words
+      → k < 16 * n → bitAt (a .frame) (at + k) ≢ 0 → blocksIn y ≤ 16 * p + k
+      → hears A a (on (state.Secured (link h c half.Nothing)) false r) ≡ errs a r true h half.Nothing 0x03
+  pub perma-user : (p n at : ℕ) → Says a h (order.Permalock 0 (span 3 p n) at) → 1 ≤ n → p + n ≤ y .perma .words
+      → ((k : ℕ) → k < 16 * n → bitAt (a .frame) (at + k) ≢ 0 → 16 * p + k < blocksIn y)
+      → pwdBit (lockWord y (a .image)) 4 ≡ 0 → permaBit (lockWord y (a .image)) 4 ≡ 1
+      → hears A a (on (state.Secured (link h c half.Nothing)) false r) ≡ errs a r true h half.Nothing 0x04
+
+pub record Refusals (A : Program) : Type 0 where
+  pub unready : (a : Air) → Unready A a
+  pub unheard : (y : Layout) (a : Air) (st : State) (r : Register) → Idle y (a .image) → Unheard A a st r
+  pub wrong : (y : Layout) (a : Air) (r : Register) → Idle y (a .image) → Wrong A a r
+  pub dropped : (y : Layout) (a : Air) (r : Register) → Idle y (a .image) → Dropped A y a r
+  pub errors : (y : Layout) (a : Air) (r : Register) (q : Bool) (h : ℕ) (c : Cover) → Idle y (a .image) → 6 ≤ length (a .room) → Errors A y a r q h c
+  pub locks : (y : Layout) (a : Air) (r : Register) (h : ℕ) (c : Cover) → Idle y (a .image) → 6 ≤ length (a .room) → Locks A y a r h c
