@@ -5,9 +5,10 @@
    - image, frame, words and room of one call do not overlap;
    - nothing else touches them until the call returns;
    - `stores`, where a call takes it, is no more than the word stores that the power will last. The call makes at most so many, the first of
-     its list, and stops. Of a power that fails earlier than it was told, nothing is promised, but for the last of those stores: it may be
-     torn between its two bytes. A byte is stored whole or not at all; then the next whole power-up leaves old words or new ones, never a
-     mix (RULES D3). Bits torn inside a byte are not covered.
+     its list, and stops. If the power fails inside the last of those stores, one byte of that word may be made and the other not; the next
+     whole power-up still leaves the old words or the new ones, never a mix (RULES D3; this rests on the library's stores being made in
+     order). If it fails earlier than that, nothing is promised. A byte must be stored whole or not at all; bits torn inside one are not
+     covered.
    The library allocates nothing, keeps nothing between calls and links nothing but memset.
 
    Answers, by number (RULES 5). "Everything stays": image, session and room are as before. A record that is no session's is Off, and comes

@@ -22,7 +22,8 @@ use Rattle.tag.specs.Power.{powerUpOf}
 use Rattle.demands.specs.Calls.{Call, Tag, answerOf, imageAfter, more, torn, Turn, run}
 use Rattle.demands.specs.Demands.{Storing, told, Stores, powerUps, wholePowerUps, Unbroken, Demand3, WholeWords, Kept, AnyRun, wholeRun, WholeRuns}
 use Rattle.demands.proofs.Rows.{Refused, Acting, wordsOf, acts}
-use Rattle.demands.proofs.Cuts.{torn-told, needs}
+use Rattle.demands.proofs.Cuts.{torn-told, needs, demand-3}
+use Rattle.demands.proofs.Runs.{any-run}
 
 -- a byte past the end
 past : (n m : List ℕ) → withByte (length m) n m ≡ m
@@ -108,3 +109,10 @@ whole-runs a y m before later bytes idle =
     subst (λ (n : List ℕ). Kept y n (wholeRun m (before ++ later))) (turns-same m before)
     (subst (Kept y (run m (turns m before))) (ap (run m) (sym (turns-append m before later)) ∙ turns-same m (before ++ later))
     (a y m (turns m before) (turns (wholeRun m before) later) bytes idle))
+
+-- both, of the tag
+pub demand-3-whole : WholeWords
+demand-3-whole = whole-words demand-3
+
+pub any-whole-run : WholeRuns
+any-whole-run = whole-runs any-run

@@ -117,7 +117,7 @@ pub record Kept (y : Layout) (m n : List ℕ) : Type 0 where
 abbrev pub AnyRun : Type 0
 AnyRun = (y : Layout) (m : List ℕ) (before later : List Turn) → Bytes m → Idle y m → Kept y (run m before) (run m (before ++ later))
 
--- Her own words, "one word store is whole or absent", are the case where no word is torn: `whole-words` and `whole-runs` in proofs/Whole derive it.
+-- The buyer's own words, "a word store is whole or absent", are the case where no word is torn: `whole-words` and `whole-runs` in proofs/Whole derive it.
 
 -- the image after power-ups with power for ks stores, and after a run of calls
 abbrev pub wholePowerUps : List ℕ → List ℕ → List ℕ

@@ -81,7 +81,7 @@ torn-table =
     ∷ p 9 (written 4 90) (word 0xABCD)
     ∷ p 10 (written 4 91) finished
     ∷ p 11 (answerOf tag (told p7 5) .image) finished
-    -- of each store of the power-up that follows a cut after the count: the word, the count 0, the CRC-16
+    -- of each store of the power-up that follows a cut after the count: the word, the count 0; and of the CRC-16, where another word stood
     ∷ p 12 (written 3 none) announced
     ∷ p 13 (powered 0 62 announced) (word 0xAB0A)
     ∷ p 14 (powered 0 63 announced) (word 0x00CD)

@@ -1,4 +1,4 @@
--- The content rules as rules of single words: the check's steps are the paper's rules. Assumes nothing.
+-- The content rules as rules of single words: the check's steps are Content's rules. Assumes nothing.
 use Prim.Native.Nat.{ℕ, _+_, _-_, _*_, _/_, _%_, _^_, _≤_, _<_}
 use mathlib.Core.Path.{_≡_, refl, sym, ap₂, subst}
 use mathlib.Core.Logic.{_⊎_, inl, inr, ⊎-elim}

@@ -1,4 +1,4 @@
--- The check as the code makes it: the header's rules in four parts, and which value may stand at which word. Equal to the paper's rules by `same-header` and `same-content`. Assumes nothing.
+-- The check as the code makes it: the header's rules in four parts, and which value may stand at which word. Equal to Layout's and Content's by `same-header` and `same-content`. Assumes nothing.
 use Prim.Native.Nat.{ℕ, _+_, _-_, _*_, _/_, _%_, _^_}
 use mathlib.Core.Bool.{Bool, true, not, cond, _&&_, _||_}
 use mathlib.Core.List.{List, [], _∷_}

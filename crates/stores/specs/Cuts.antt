@@ -43,7 +43,8 @@ cutPowerUps (c ∷ cs) m = cutPowerUps cs (cutPowerUp c m)
 abbrev pub cutImage : Layout → List ℕ → List Store → Cut → List Cut → List ℕ
 cutImage y m ss c cs = cutPowerUps cs (cutAfter c m (changeStores (y .work .at) ss))
 
--- the stores that count as made: the whole ones, and the next where its byte is the low one of the pending count
+-- the stores that count as made: the whole ones, and one more where the byte is the low one of the pending count (whatever the next store is: only the
+-- count's own, number 2n + 1, takes it past 2n)
 abbrev pub reaches : Layout → Cut → ℕ
 reaches y c = c .whole + cond (eqb (c .byte) (2 * y .work .at + 1)) 1 0
 
