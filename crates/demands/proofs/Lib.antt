@@ -6,3 +6,5 @@ pub mod Runs
 pub mod Whole
 pub mod Tables
 pub mod Commands
+pub mod Codes
+pub mod Refusals

@@ -1,0 +1,158 @@
+-- The error codes as facts: which one applies, in the rules' order. Assumes nothing.
+use Prim.Native.Nat.{ℕ, zero, suc, _+_, _-_, _*_, _%_, _≤_, _<_}
+use mathlib.Core.Path.{_≡_, refl, sym, ap, ap₂, _∙_, subst}
+use mathlib.Core.Logic.{_≢_, _⊎_, inl, inr}
+use mathlib.Core.Bool.{Bool, true, false, cond, not, _&&_, _||_}
+use mathlib.Core.List.{List}
+use native.Mathlib.Omega.{arith}
+use lib.Dec.{eqb, leb, ltb}
+use borrow.Author.Tests.{eqb-true, eqb-false, ltb-true, leb-true, eq-eqb, ne-eqb, le-ltb, lt-ltb, le-leb, lt-leb}
+use Rattle.bits.specs.Bits.{bitAt}
+use Rattle.bits.specs.Below.{every}
+use Rattle.bits.proofs.Below.{every-not, every-all}
+use Rattle.image.specs.declared.Section.{Section}
+use Rattle.image.specs.declared.Layout.{Layout}
+use Rattle.image.specs.Layout.{blocksIn, pairsIn}
+use Rattle.image.specs.Content.{lockWord, lengthOf, permalock}
+use Rattle.frames.specs.Frames.{span}
+use Rattle.rights.specs.declared.Code.{Code}
+use Rattle.rights.specs.declared.Code.the-variants as code
+use Rattle.rights.specs.Rights.{bankOf, pastEnd, noRight, other, pwdBit, permaBit, mayRead, mayWrite, beyond, badPc, spanWords, readCode, writeCode, lockedTo, lockCode, pairBreaks, somePermalock, userOpenForGood, notPerma, permaReadCode, permaCode}
+use Rattle.demands.specs.Refusals.{Within, Past, TakesPc, AllRight}
+
+pub or-right : (a b : Bool) → b ≡ true → a || b ≡ true
+or-right true b e = refl
+or-right false b e = e
+
+pub and-false : (a : Bool) → a && false ≡ false
+and-false true = refl
+and-false false = refl
+
+past-beyond : (s : Section) (b p n : ℕ) → Past (s .words) p n → beyond s (span b p n) ≡ true
+past-beyond s b p n (inl l) = ap (λ (t : Bool). t || ltb (s .words) (p + n)) (le-leb (s .words) p l)
+past-beyond s b p n (inr l) = or-right (leb (s .words) p) (ltb (s .words) (p + n)) (lt-ltb (s .words) (p + n) l)
+
+within-beyond : (s : Section) (b p n : ℕ) → Within (s .words) p n → beyond s (span b p n) ≡ false
+within-beyond s b p n w = ap₂ (λ (t u : Bool). t || u) (lt-leb (s .words) p (w .0)) (le-ltb (s .words) (p + n) (w .1))
+
+module _ (y : Layout) (m : List ℕ) (q : Bool) (b p n : ℕ) where
+  pub read-past : Past (bankOf y b .words) p n → readCode y m q (span b p n) ≡ code.Error 0x03
+  unfolding readCode
+  read-past f = rw (past-beyond (bankOf y b) b p n f)
+
+  pub read-right : (j : ℕ) → Within (bankOf y b .words) p n → (j < n) ⊎ ((n ≡ 0) × (p + j < bankOf y b .words)) → mayRead y m q b (p + j) ≡ false
+      → readCode y m q (span b p n) ≡ code.Error 0x04
+  unfolding readCode
+  read-right j w d e = rw (within-beyond (bankOf y b) b p n w, every-not (λ i. mayRead y m q b (p + i)) (spanWords (bankOf y b) (span b p n)) j (inside d) e)
+    where
+      inside : (j < n) ⊎ ((n ≡ 0) × (p + j < bankOf y b .words)) → j < spanWords (bankOf y b) (span b p n)
+      inside (inl l) = rw (ne-eqb n 0 (omega arith)) l
+      inside (inr z) = rw (eq-eqb n 0 (z .0)) (omega (arith, z .1))
+
+  module _ (pc : ℕ) where
+    pub write-past : Past (bankOf y b .words) p n → writeCode y m q (span b p n) pc ≡ code.Error 0x03
+    unfolding writeCode
+    write-past f = rw (past-beyond (bankOf y b) b p n f)
+
+    pub write-right : (j : ℕ) → Within (bankOf y b .words) p n → j < n → mayWrite y m q b (p + j) ≡ false → writeCode y m q (span b p n) pc ≡ code.Error 0x04
+    unfolding writeCode
+    write-right j w l e = rw (within-beyond (bankOf y b) b p n w, every-not (λ i. mayWrite y m q b (p + i)) n j l e)
+
+    all-right : AllRight y m q b p n → every (λ i. mayWrite y m q b (p + i)) n ≡ true
+    all-right f = every-all (λ i. mayWrite y m q b (p + i)) n f
+
+    pub write-pc : Within (bankOf y b .words) p n → AllRight y m q b p n → TakesPc b p n → y .epc .words < lengthOf pc + 2
+        → writeCode y m q (span b p n) pc ≡ code.Error 0x03
+    unfolding writeCode
+    write-pc w f t l =
+        rw (within-beyond (bankOf y b) b p n w, all-right f, eq-eqb b 1 (t .0), le-leb p 1 (t .1), lt-ltb 1 (p + n) (t .2), lt-ltb (y .epc .words) (lengthOf pc + 2) l)
+
+    good-pc : (TakesPc b p n → lengthOf pc + 2 ≤ y .epc .words) → badPc y (span b p n) pc ≡ false
+    good-pc f = go (eqb b 1) (leb p 1) (ltb 1 (p + n)) refl refl refl
+      where
+        go : (t u v : Bool) → eqb b 1 ≡ t → leb p 1 ≡ u → ltb 1 (p + n) ≡ v → t && u && v && ltb (y .epc .words) (lengthOf pc + 2) ≡ false
+        go true true true d e g = le-ltb (y .epc .words) (lengthOf pc + 2) (f (eqb-true b 1 d, leb-true p 1 e, ltb-true 1 (p + n) g))
+        go true true false d e g = refl
+        go true false v d e g = refl
+        go false u v d e g = refl
+
+    pub write-many : Within (bankOf y b .words) p n → AllRight y m q b p n → (TakesPc b p n → lengthOf pc + 2 ≤ y .epc .words) → pairsIn y < n
+        → writeCode y m q (span b p n) pc ≡ code.Error 0x00
+    unfolding writeCode
+    write-many w f g l = rw (within-beyond (bankOf y b) b p n w, all-right f, good-pc g, lt-ltb (pairsIn y) n l)
+
+-- Lock
+module _ (y : Layout) (m : List ℕ) (mask action : ℕ) where
+  pub lock-pair : (k : ℕ) → k < 5
+      → let old = lockWord y m in let new = lockedTo old mask action in
+      permaBit old k ≡ 1 → (permaBit new k ≢ 1) ⊎ (pwdBit new k ≢ pwdBit old k) → lockCode y m mask action ≡ code.Error 0x04
+  unfolding lockCode
+  lock-pair k l e d =
+      rw (every-not (λ k. not (pairBreaks (lockWord y m) (lockedTo (lockWord y m) mask action) k)) 5 k l (ap not (breaks-so d)))
+    where
+      new : ℕ
+      new = lockedTo (lockWord y m) mask action
+
+      breaks-so : (permaBit new k ≢ 1) ⊎ (pwdBit new k ≢ pwdBit (lockWord y m) k) → pairBreaks (lockWord y m) new k ≡ true
+      breaks-so (inl d) =
+          ap₂ (λ (t u : Bool). t && not (u && eqb (pwdBit new k) (pwdBit (lockWord y m) k))) (eq-eqb (permaBit (lockWord y m) k) 1 e) (ne-eqb (permaBit new k) 1 d)
+      breaks-so (inr d) =
+          ap₂ (λ (t u : Bool). t && not (eqb (permaBit new k) 1 && u)) (eq-eqb (permaBit (lockWord y m) k) 1 e) (ne-eqb (pwdBit new k) (pwdBit (lockWord y m) k) d)
+          ∙ ap not (and-false (eqb (permaBit new k) 1))
+
+  pub lock-user : (b : ℕ) → mask % 4 ≢ 0
+      → let new = lockedTo (lockWord y m) mask action in
+      pwdBit new 4 ≡ 0 → permaBit new 4 ≡ 1 → b < blocksIn y → permalock y m b ≢ 0 → lockCode y m mask action ≡ code.Error 0x04
+  unfolding lockCode
+  lock-user b f e d l g = ap (λ (t : Bool). cond first noRight (cond t noRight code.Nothing)) second ∙ either first
+    where
+      new : ℕ
+      new = lockedTo (lockWord y m) mask action
+
+      first : Bool
+      first = not (every (λ k. not (pairBreaks (lockWord y m) new k)) 5)
+
+      second : not (eqb (mask % 4) 0) && userOpenForGood new && somePermalock y m ≡ true
+      second =
+          ap₂ (λ (t u : Bool). not t && (u && eqb (permaBit new 4) 1) && somePermalock y m) (ne-eqb (mask % 4) 0 f) (eq-eqb (pwdBit new 4) 0 e)
+          ∙ ap₂ (λ (t u : Bool). t && not u) (eq-eqb (permaBit new 4) 1 d) (every-not (λ i. eqb (permalock y m i) 0) (blocksIn y) b l (ne-eqb (permalock y m b) 0 g))
+
+      either : (t : Bool) → cond t noRight noRight ≡ code.Error 0x04
+      either true = refl
+      either false = refl
+
+-- BlockPermalock
+not-perma : (y : Layout) (b p n : ℕ) → (b ≢ 3) ⊎ (y .perma .words < p + n) → notPerma y (span b p n) ≡ true
+not-perma y b p n (inl d) = ap (λ (t : Bool). not t || ltb (y .perma .words) (p + n)) (ne-eqb b 3 d)
+not-perma y b p n (inr l) = or-right (not (eqb b 3)) (ltb (y .perma .words) (p + n)) (lt-ltb (y .perma .words) (p + n) l)
+
+pub perma-read : (y : Layout) (b p n : ℕ) → (b ≢ 3) ⊎ (y .perma .words < p + n) → permaReadCode y (span b p n) ≡ code.Error 0x03
+unfolding permaReadCode
+perma-read y b p n d = rw (not-perma y b p n d)
+
+module _ (y : Layout) (m : List ℕ) (f : List ℕ) (p n at : ℕ) where
+  pub perma-past : (b : ℕ) → (b ≢ 3) ⊎ (y .perma .words < p + n) → permaCode y m (span b p n) f at ≡ code.Error 0x03
+  unfolding permaCode
+  perma-past b d = rw (not-perma y b p n d)
+
+  in-perma : p + n ≤ y .perma .words → notPerma y (span 3 p n) ≡ false
+  in-perma l = le-ltb (y .perma .words) (p + n) l
+
+  pub perma-mask : (k : ℕ) → p + n ≤ y .perma .words → k < 16 * n → bitAt f (at + k) ≢ 0 → blocksIn y ≤ 16 * p + k → permaCode y m (span 3 p n) f at ≡ code.Error 0x03
+  unfolding permaCode
+  perma-mask k l i d e =
+      rw (in-perma l, every-not (λ k. eqb (bitAt f (at + k)) 0 || ltb (16 * p + k) (blocksIn y)) (16 * n) k i
+      (ap₂ (λ (t u : Bool). t || u) (ne-eqb (bitAt f (at + k)) 0 d) (le-ltb (16 * p + k) (blocksIn y) e)))
+
+  pub perma-user : p + n ≤ y .perma .words → ((k : ℕ) → k < 16 * n → bitAt f (at + k) ≢ 0 → 16 * p + k < blocksIn y)
+      → pwdBit (lockWord y m) 4 ≡ 0 → permaBit (lockWord y m) 4 ≡ 1 → permaCode y m (span 3 p n) f at ≡ code.Error 0x04
+  unfolding permaCode
+  perma-user l g e d =
+      rw (in-perma l, every-all (λ k. eqb (bitAt f (at + k)) 0 || ltb (16 * p + k) (blocksIn y)) (16 * n) each, eq-eqb (pwdBit (lockWord y m) 4) 0 e, eq-eqb (permaBit (lockWord y m) 4) 1 d)
+    where
+      each : (k : ℕ) → k < 16 * n → eqb (bitAt f (at + k)) 0 || ltb (16 * p + k) (blocksIn y) ≡ true
+      each k i = go (eqb (bitAt f (at + k)) 0) refl
+        where
+          go : (t : Bool) → eqb (bitAt f (at + k)) 0 ≡ t → t || ltb (16 * p + k) (blocksIn y) ≡ true
+          go true z = refl
+          go false z = lt-ltb (16 * p + k) (blocksIn y) (g k i (eqb-false (bitAt f (at + k)) 0 z))

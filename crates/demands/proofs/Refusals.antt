@@ -1,0 +1,468 @@
+-- When a frame is refused: each line of the refusals is a row of the table with the rows before it excluded. Assumes nothing.
+use Prim.Native.Nat.{ℕ, zero, suc, _+_, _≤_}
+use mathlib.Core.Path.{_≡_, refl, sym, ap, ap₂, _∙_, subst}
+use mathlib.Core.Logic.{_≢_, _⊎_, inl, inr}
+use mathlib.Core.Bool.{true≢false, Bool, true, false, cond, not, _&&_, _||_}
+use mathlib.Core.List.{List, [], _∷_, _++_}
+use native.Mathlib.Omega.{arith}
+use lib.Bits.{bitXor}
+use lib.Dec.{eqb}
+use lib.ListN.{length, drop}
+use borrow.Author.Tests.{eq-eqb, ne-eqb, le-ltb}
+use Rattle.bits.specs.First.{first}
+use Rattle.image.specs.declared.Layout.{Layout}
+use Rattle.image.specs.Layout.{layoutOf}
+use Rattle.image.specs.Content.{countIn}
+use Rattle.image.specs.Check.{checkOf, refused, good, short, headerWrong, contentBroken, imageRows}
+use Rattle.image.proofs.Answers.{check-good, check-0}
+use Rattle.frames.specs.declared.Order.{Order}
+use Rattle.frames.specs.declared.Order.the-variants as order
+use Rattle.frames.specs.declared.Heard.{Heard}
+use Rattle.frames.specs.declared.Heard.the-variants as heard
+use Rattle.frames.specs.Frames.{span, heardOf}
+use Rattle.replies.specs.declared.Reply.{Reply}
+use Rattle.replies.specs.declared.Reply.the-variants as reply
+use Rattle.replies.specs.Replies.{replyBits, replyLength}
+use Rattle.replies.specs.Pack.{packed}
+use Rattle.rights.specs.declared.Code.{Code}
+use Rattle.rights.specs.declared.Code.the-variants as code
+use Rattle.rights.specs.Rights.{writeCode}
+use Rattle.tag.specs.declared.Cover.{Cover}
+use Rattle.tag.specs.declared.Cover.the-variants as cover
+use Rattle.tag.specs.declared.Half.{Half}
+use Rattle.tag.specs.declared.Half.the-variants as half
+use Rattle.tag.specs.declared.Part.{Part}
+use Rattle.tag.specs.declared.Part.the-variants as part
+use Rattle.tag.specs.declared.Asks.{Asks}
+use Rattle.tag.specs.declared.Register.{Register}
+use Rattle.tag.specs.declared.Power.the-variants as power
+use Rattle.tag.specs.declared.State.{State}
+use Rattle.tag.specs.declared.State.the-variants as state
+use Rattle.tag.specs.declared.Session.{Session}
+use Rattle.tag.specs.Session.{offSession, on}
+use Rattle.tag.specs.Result.{Result}
+use Rattle.tag.specs.Commands.{asks, asksOf, linkOf, isCovered, wrong, wrongBy, killWord, breaks, codeOf, used}
+use Rattle.tag.specs.Table.{Input, input, said, malformed, checksumWrong, broken, errorCode, newState, doneReply, storesOf, isError, replyOr, replyOf, fits, replied, everything, dropped, rows, frameOf, isOff}
+use Rattle.demands.specs.Calls.{answerOf, Idle}
+use Rattle.demands.specs.Commands.{Air, linked, link, Says}
+use Rattle.demands.proofs.Rows.{Rows}
+use Rattle.demands.proofs.Codes.{or-right, and-false}
+use Rattle.demands.proofs.Codes as codes
+use Rattle.demands.specs.Refusals.{hears, stays, drops, errs, Covered, Needs, Other, Brings, Wrong, Dropped, Errors, Locks, Refusals}
+
+-- row k holds, and none before it
+abbrev Reaches : ℕ → Rows → Type 0
+Reaches k [] = ⊥
+Reaches zero (r ∷ rs) = r .1 ≡ true
+Reaches (suc k) (r ∷ rs) = (r .1 ≡ false) × Reaches k rs
+
+abbrev rowAt : ℕ → Rows → Result → Result
+rowAt k [] last = last
+rowAt zero (r ∷ rs) last = r .0
+rowAt (suc k) (r ∷ rs) last = rowAt k rs last
+
+first-at : (k : ℕ) (rs : Rows) (last : Result) → Reaches k rs → first rs last ≡ rowAt k rs last
+first-at k [] last h = absurd h
+first-at zero (r ∷ rs) last h = ap (λ (b : Bool). cond b (r .0) (first rs last)) h
+first-at (suc k) (r ∷ rs) last h = ap (λ (b : Bool). cond b (r .0) (first rs last)) (h .0) ∙ first-at k rs last (h .1)
+
+-- what a frame comes to where no row holds
+last : Input → Result
+last i = replied i 0 (newState i (said i)) (storesOf i)
+
+-- an image that is not good, or a session that no frame is heard with
+module _ (a : Air) where
+  handed-to : Session → Input
+  handed-to s = input s (a .image) (a .frame) (a .bits) (a .fresh) (a .room) (a .power)
+
+  bad-image : (s : Session) (n : ℕ) → checkOf (a .image) ≡ refused n → hears answerOf a s ≡ stays n a s
+  unfolding frameOf checkOf
+  bad-image s n e = go (short (a .image)) (headerWrong (a .image)) (contentBroken (a .image)) refl refl refl e
+    where
+      go : (x y z : Bool) → short (a .image) ≡ x → headerWrong (a .image) ≡ y → contentBroken (a .image) ≡ z
+          → cond x (refused 1) (cond y (refused 2) (cond z (refused 3) (good (layoutOf (a .image))))) ≡ refused n
+          → hears answerOf a s ≡ stays n a s
+      go true y z p q r e = let i : 1 ≡ n = cc in rw (p, ← i)
+      go false true z p q r e = let i : 2 ≡ n = cc in rw (p, q, ← i)
+      go false false true p q r e = let i : 3 ≡ n = cc in rw (p, q, r, ← i)
+      go false false false p q r e = absurd (let z : _≡_ {A = ℕ} 0 1 = cc in omega arith)
+
+  off : (y : Layout) → checkOf (a .image) ≡ good y → hears answerOf a offSession ≡ stays 5 a offSession
+  unfolding frameOf
+  off y e = let c = check-0 (a .image) y (sym e) in rw (c .0, c .1, c .2)
+
+  pends : (y : Layout) (s : Session) → checkOf (a .image) ≡ good y → countIn y (a .image) ≢ 0 → hears answerOf a s ≡ stays 5 a s
+  unfolding frameOf handed-to last
+  pends y s e n =
+      let c = check-0 (a .image) y (sym e) in
+      let d : countIn (layoutOf (a .image)) (a .image) ≢ 0 = subst (λ (z : Layout). countIn z (a .image) ≢ 0) (check-good (a .image) y e .layout) n in
+      first-at 3 (rows (handed-to s)) (last (handed-to s))
+      (c .0,
+      (c .1,
+      (c .2,
+      ap (λ (b : Bool). isOff (s .power) || not b) (ne-eqb (countIn (layoutOf (a .image)) (a .image)) 0 d) ∙ or-right (isOff (s .power)) true refl)))
+
+  held : (y : Layout) (st : State) (r : Register) → Idle y (a .image) → hears answerOf a (on st true r) ≡ stays 6 a (on st true r)
+  unfolding frameOf
+  held y st r idle =
+      let c = check-0 (a .image) y (sym (idle .sound)) in
+      let z : countIn (layoutOf (a .image)) (a .image) ≡ 0 = subst (λ (x : Layout). countIn x (a .image) ≡ 0) (check-good (a .image) y (idle .sound) .layout) (idle .nothing) in
+      rw (c .0, c .1, c .2, eq-eqb (countIn (layoutOf (a .image)) (a .image)) 0 z)
+
+-- a free port on a good image with nothing pending: the rows from 7 on
+module _ (y : Layout) (a : Air) (st : State) (r : Register) (idle : Idle y (a .image)) where
+  handed : Input
+  handed = input (on st false r) (a .image) (a .frame) (a .bits) (a .fresh) (a .room) (a .power)
+
+  -- rows 1, 2, 3, 5 and 6 don't hold
+  ready : (k : ℕ) (more : Rows) → Reaches k more
+      → Reaches (suc (suc (suc (suc (suc k)))))
+      (imageRows (everything handed) (a .image)
+      ++ (everything handed 5, not (eqb (countIn (layoutOf (a .image)) (a .image)) 0))
+      ∷ (everything handed 6, false)
+      ∷ more)
+  ready k more h =
+      let c = check-0 (a .image) y (sym (idle .sound)) in
+      let z : countIn (layoutOf (a .image)) (a .image) ≡ 0 = subst (λ (x : Layout). countIn x (a .image) ≡ 0) (check-good (a .image) y (idle .sound) .layout) (idle .nothing) in
+      (c .0, (c .1, (c .2, (ap not (eq-eqb (countIn (layoutOf (a .image)) (a .image)) 0 z), (refl, h)))))
+
+  -- the rows from 7 on: 7, 8, 9, 12, and 10
+  row-7 : heardOf (a .frame) (a .bits) ≡ heard.Malformed → hears answerOf a (on st false r) ≡ stays 7 a (on st false r)
+  unfolding frameOf handed last
+  row-7 h = first-at 5 (rows handed) (last handed) (ready 0 (drop 5 (rows handed)) (ap malformed h))
+
+  row-8 : (x : Heard) → heardOf (a .frame) (a .bits) ≡ x → malformed x ≡ false → checksumWrong (a .frame) (a .bits) x ≡ true
+      → hears answerOf a (on st false r) ≡ stays 8 a (on st false r)
+  unfolding frameOf handed last
+  row-8 x h m e = first-at 6 (rows handed) (last handed) (ready 1 (drop 5 (rows handed)) (ap malformed h ∙ m, ap (checksumWrong (a .frame) (a .bits)) h ∙ e))
+
+  module _ (x : Heard) (h : heardOf (a .frame) (a .bits) ≡ x) (m : malformed x ≡ false) (k : checksumWrong (a .frame) (a .bits) x ≡ false) where
+    row-9 : wrong st x ≡ true → hears answerOf a (on st false r) ≡ stays 9 a (on st false r)
+    unfolding frameOf handed last
+    row-9 e = first-at 7 (rows handed) (last handed) (ready 2 (drop 5 (rows handed)) (ap malformed h ∙ m, (ap (checksumWrong (a .frame) (a .bits)) h ∙ k, ap (wrong st) h ∙ e)))
+
+    row-12 : wrong st x ≡ false → broken handed x ≡ true → hears answerOf a (on st false r) ≡ drops a r
+    unfolding frameOf handed last
+    row-12 w e =
+        first-at 8 (rows handed) (last handed)
+        (ready 3 (drop 5 (rows handed)) (ap malformed h ∙ m, (ap (checksumWrong (a .frame) (a .bits)) h ∙ k, (ap (wrong st) h ∙ w, ap (broken handed) h ∙ e))))
+
+    replied-as : Reply → Result
+    replied-as z =
+        record {
+          number = 10;
+          session = on (used st) false r;
+          reply = replyLength z;
+          stores = 0;
+          value = 0;
+          image = a .image;
+          room = packed (replyBits (a .image) z) (a .room);
+        }
+
+    row-10 : (e : ℕ) → wrong st x ≡ false → broken handed x ≡ false → errorCode handed x ≡ code.Error e → 6 ≤ length (a .room)
+        → hears answerOf a (on st false r) ≡ replied-as (reply.Error e (linkOf st .handle))
+    unfolding frameOf handed last replied-as
+    row-10 e w b c l =
+        let code-is : errorCode handed (said handed) ≡ code.Error e = ap (errorCode handed) h ∙ c in
+        let reply-is : replyOf handed ≡ reply.Error e (linkOf st .handle) = ap (λ (q : Code). replyOr q (linkOf st .handle) (doneReply handed (said handed))) code-is in
+        first-at 9 (rows handed) (last handed)
+        (ready 4 (drop 5 (rows handed))
+        (ap malformed h ∙ m,
+        (ap (checksumWrong (a .frame) (a .bits)) h ∙ k,
+        (ap (wrong st) h ∙ w,
+        (ap (broken handed) h ∙ b,
+        ap₂ (λ (q : Code) (z : Reply). isError q && fits z (a .room)) code-is reply-is ∙ ap not (le-ltb (length (a .room)) 6 l))))))
+        ∙ ap replied-as reply-is
+
+-- what it lacks, or that it has it all
+data Lacks (q : Bool) (c : Cover) (a : Asks) : Type 0 where
+  insecure : q ≡ false → a .secured ≡ true → Lacks q c a
+  uncovered : a .cover && not (isCovered c) ≡ true → Lacks q c a
+  empty : a .bad ≡ true → Lacks q c a
+
+record Has (q : Bool) (c : Cover) (a : Asks) : Type 0 where
+  secured : not q && a .secured ≡ false
+  covered : a .cover && not (isCovered c) ≡ false
+  whole : a .bad ≡ false
+
+not-so : (q : Bool) → (q ≡ true → ⊥) → q ≡ false
+not-so true f = absurd (f refl)
+not-so false f = refl
+
+bare : (c : Cover) → (Covered c → ⊥) → not (isCovered c) ≡ true
+bare cover.Nothing f = refl
+bare (cover.Number n) f = absurd (f tt)
+
+dressed : (c : Cover) → Covered c → not (isCovered c) ≡ false
+dressed cover.Nothing f = absurd f
+dressed (cover.Number n) f = refl
+
+none : (k : ℕ) → (1 ≤ k → ⊥) → eqb k 0 ≡ true
+none zero f = refl
+none (suc k) f = absurd (f (omega arith))
+
+some : (k : ℕ) → 1 ≤ k → eqb k 0 ≡ false
+some k l = ne-eqb k 0 (omega arith)
+
+perma-lacks : (q : Bool) (c : Cover) (rfu k : ℕ) (p : Part) → ((q ≡ true) × (rfu ≡ 0) × (1 ≤ k) → ⊥) → Lacks q c (asks false true false (not (eqb rfu 0) || eqb k 0) p)
+perma-lacks false c rfu k p f = insecure refl refl
+perma-lacks true c zero k p f = empty (none k (λ l. f (refl, refl, l)))
+perma-lacks true c (suc rfu) k p f = empty (ap (λ (b : Bool). not b || eqb k 0) (ne-eqb (suc rfu) 0 (omega arith)))
+
+lacks : (o : Order) (q : Bool) (c : Cover) → (Needs q c o → ⊥) → Lacks q c (asksOf o)
+lacks order.ReqRn q c f = absurd (f tt)
+lacks (order.Read s) q c f = absurd (f tt)
+lacks (order.Write s w) q c f = uncovered (bare c f)
+lacks (order.Kill w) q c f = uncovered (bare c f)
+lacks (order.Lock mask action) q c f = insecure (not-so q f) refl
+lacks (order.Access w) q c f = uncovered (bare c f)
+lacks (order.BlockWrite s at) q c f = empty (none (s .count) f)
+lacks (order.BlockErase s) q c f = empty (none (s .count) f)
+lacks (order.ReadPermalock rfu s) q c f = perma-lacks q c rfu (s .count) part.Other f
+lacks (order.Permalock rfu s at) q c f = perma-lacks q c rfu (s .count) part.Other f
+
+perma-has : (q : Bool) (c : Cover) (rfu k : ℕ) (p : Part) → (q ≡ true) × (rfu ≡ 0) × (1 ≤ k) → Has q c (asks false true false (not (eqb rfu 0) || eqb k 0) p)
+perma-has q c rfu k p f =
+    record {
+      secured = ap (λ (b : Bool). not b && true) (f .0);
+      covered = refl;
+      whole = ap₂ (λ (a b : Bool). not a || b) (eq-eqb rfu 0 (f .1)) (some k (f .2));
+    }
+
+and-nothing : (q : Bool) → not q && false ≡ false
+and-nothing q = and-false (not q)
+
+has : (o : Order) (q : Bool) (c : Cover) → Needs q c o → Has q c (asksOf o)
+has order.ReqRn q c f = record { secured = and-nothing q; covered = refl; whole = refl }
+has (order.Read s) q c f = record { secured = and-nothing q; covered = refl; whole = refl }
+has (order.Write s w) q c f = record { secured = and-nothing q; covered = dressed c f; whole = refl }
+has (order.Kill w) q c f = record { secured = and-nothing q; covered = dressed c f; whole = refl }
+has (order.Lock mask action) q c f = record { secured = ap (λ (b : Bool). not b && true) f; covered = refl; whole = refl }
+has (order.Access w) q c f = record { secured = and-nothing q; covered = dressed c f; whole = refl }
+has (order.BlockWrite s at) q c f = record { secured = and-nothing q; covered = refl; whole = some (s .count) f }
+has (order.BlockErase s) q c f = record { secured = and-nothing q; covered = refl; whole = some (s .count) f }
+has (order.ReadPermalock rfu s) q c f = perma-has q c rfu (s .count) part.Other f
+has (order.Permalock rfu s at) q c f = perma-has q c rfu (s .count) part.Other f
+
+-- so it is wrong, or not
+or-middle : (x y z : Bool) → y ≡ true → x || y || z ≡ true
+or-middle x y z e = ap (λ (b : Bool). b || z) (or-right x y e)
+
+module _ (h : ℕ) (c : Cover) (p : Half) where
+  lacks-wrong : (q : Bool) (n : ℕ) (a : Asks) → Lacks q c a → wrongBy (linked q (link h c p)) n a ≡ true
+  lacks-wrong true n a (insecure e s) = absurd (true≢false e)
+  lacks-wrong true n a (uncovered e) = or-middle (not (eqb h n)) (a .cover && not (isCovered c)) (a .bad) e
+  lacks-wrong true n a (empty e) = or-right (not (eqb h n) || (a .cover && not (isCovered c))) (a .bad) e
+  lacks-wrong false n a (insecure e s) = ap (λ (b : Bool). not (not b && eqb h n) || (a .cover && not (isCovered c)) || a .bad) s
+  lacks-wrong false n a (uncovered e) = or-middle (not (not (a .secured) && eqb h n)) (a .cover && not (isCovered c)) (a .bad) e
+  lacks-wrong false n a (empty e) = or-right (not (not (a .secured) && eqb h n) || (a .cover && not (isCovered c))) (a .bad) e
+
+  other-wrong : (q : Bool) (n : ℕ) (a : Asks) → n ≢ h → wrongBy (linked q (link h c p)) n a ≡ true
+  other-wrong true n a d = ap (λ (b : Bool). not b || (a .cover && not (isCovered c)) || a .bad) (ne-eqb h n (λ e. d (sym e)))
+  other-wrong false n a d =
+      ap (λ (b : Bool). not (not (a .secured) && b) || (a .cover && not (isCovered c)) || a .bad) (ne-eqb h n (λ e. d (sym e)))
+      ∙ ap (λ (b : Bool). not b || (a .cover && not (isCovered c)) || a .bad) (and-false (not (a .secured)))
+
+  has-right : (q : Bool) (a : Asks) → Has q c a → wrongBy (linked q (link h c p)) h a ≡ false
+  has-right true a f = ap₂ (λ (x z : Bool). not x || z || a .bad) (eq-eqb h h refl) (f .covered) ∙ f .whole
+  has-right false a f =
+      ap₂ (λ (x z : Bool). not (not x && z) || (a .cover && not (isCovered c)) || a .bad) (f .secured) (eq-eqb h h refl)
+      ∙ ap (λ (x : Bool). x || a .bad) (f .covered)
+      ∙ f .whole
+
+-- the frame's refusals, line by line; the layout is the image's
+module _ (a : Air) (r : Register) (idle : Idle (layoutOf (a .image)) (a .image)) where
+  says-9 : (st : State) (n : ℕ) (o : Order) → Says a n o → wrongBy st n (asksOf o) ≡ true → hears answerOf a (on st false r) ≡ stays 9 a (on st false r)
+  says-9 st n o s e = row-9 (layoutOf (a .image)) a st r idle (heard.Said (record { number = n; order = o })) (s .heard) refl (ap not (s .right)) e
+
+  early : (o : Order) → o ≢ order.ReqRn → asksOf o .early ≡ false
+  early order.ReqRn d = absurd (d refl)
+  early (order.Read s) d = refl
+  early (order.Write s w) d = refl
+  early (order.Kill w) d = refl
+  early (order.Lock mask action) d = refl
+  early (order.Access w) d = refl
+  early (order.BlockWrite s at) d = refl
+  early (order.BlockErase s) d = refl
+  early (order.ReadPermalock rfu s) d = refl
+  early (order.Permalock rfu s at) d = refl
+
+  not-admitted : (m n : ℕ) (o : Order) → (n ≢ m) ⊎ (o ≢ order.ReqRn) → wrongBy (state.Acknowledged m) n (asksOf o) ≡ true
+  not-admitted m n o (inl d) =
+      ap (λ (b : Bool). not (asksOf o .early && b) || (asksOf o .cover && true) || asksOf o .bad) (ne-eqb m n (λ e. d (sym e)))
+      ∙ ap (λ (b : Bool). not b || (asksOf o .cover && true) || asksOf o .bad) (and-false (asksOf o .early))
+  not-admitted m n o (inr d) = ap (λ (b : Bool). not (b && eqb m n) || (asksOf o .cover && true) || asksOf o .bad) (early o d)
+
+  wrongs : Wrong answerOf a r
+  wrongs =
+      record {
+        arbitrate = λ n o s. says-9 state.Arbitrate n o s refl;
+        killed = λ n o s. says-9 state.Killed n o s refl;
+        killed-nak = λ h. row-9 (layoutOf (a .image)) a state.Killed r idle heard.Nak h refl refl refl;
+        admission = λ m n o s d. says-9 (state.Acknowledged m) n o s (not-admitted m n o d);
+        handle = λ q h c p n o s d. says-9 (linked q (link h c p)) n o s (unfit q h c p n o d);
+      }
+    where
+      unfit : (q : Bool) (h : ℕ) (c : Cover) (p : Half) (n : ℕ) (o : Order) → (n ≢ h) ⊎ (Needs q c o → ⊥) → wrongBy (linked q (link h c p)) n (asksOf o) ≡ true
+      unfit q h c p n o (inl d) = other-wrong h c p q n (asksOf o) d
+      unfit q h c p n o (inr f) = lacks-wrong h c p q n (asksOf o) (lacks o q c f)
+
+  -- 12
+  says-12 : (q : Bool) (h : ℕ) (c : Cover) (p : Half) (o : Order) → Says a h o → Needs q c o
+      → breaks (layoutOf (a .image)) (a .image) (link h c p) p (asksOf o .part) ≡ true
+      → hears answerOf a (on (linked q (link h c p)) false r) ≡ drops a r
+  unfolding handed
+  says-12 q h c p o s f e =
+      row-12 (layoutOf (a .image)) a (linked q (link h c p)) r idle (heard.Said (record { number = h; order = o })) (s .heard) refl (ap not (s .right))
+      (has-right h c p q (asksOf o) (has o q c f)) (go q)
+    where
+      go : (q : Bool) → broken (handed (layoutOf (a .image)) a (linked q (link h c p)) r idle) (heard.Said (record { number = h; order = o })) ≡ true
+      go true = e
+      go false = e
+
+  -- two tests of which one fails
+  not-both : (x z : ℕ) (u v : ℕ) → (x ≢ u) ⊎ (z ≢ v) → not (eqb x u && eqb z v) ≡ true
+  not-both x z u v (inl d) = ap (λ (b : Bool). not (b && eqb z v)) (ne-eqb x u d)
+  not-both x z u v (inr d) = ap (λ (b : Bool). not (eqb x u && b)) (ne-eqb z v d) ∙ ap not (and-false (eqb x u))
+
+  comes-between : (p : Half) (o : Order) (h : ℕ) (c : Cover) → Other p o → breaks (layoutOf (a .image)) (a .image) (link h c p) p (asksOf o .part) ≡ true
+  comes-between half.Nothing o h c f = absurd f
+  comes-between (half.Access up) o h c f = go o f
+    where
+      go : (o : Order) → Other (half.Access up) o → breaks (layoutOf (a .image)) (a .image) (link h c (half.Access up)) (half.Access up) (asksOf o .part) ≡ true
+      go order.ReqRn f = absurd (f .0 refl)
+      go (order.Read s) f = refl
+      go (order.Write s w) f = refl
+      go (order.Kill w) f = refl
+      go (order.Lock mask action) f = refl
+      go (order.Access w) f = absurd (f .1 w refl)
+      go (order.BlockWrite s at) f = refl
+      go (order.BlockErase s) f = refl
+      go (order.ReadPermalock rfu s) f = refl
+      go (order.Permalock rfu s at) f = refl
+  comes-between (half.Kill up) o h c f = go o f
+    where
+      go : (o : Order) → Other (half.Kill up) o → breaks (layoutOf (a .image)) (a .image) (link h c (half.Kill up)) (half.Kill up) (asksOf o .part) ≡ true
+      go order.ReqRn f = absurd (f .0 refl)
+      go (order.Read s) f = refl
+      go (order.Write s w) f = refl
+      go (order.Kill w) f = absurd (f .1 w refl)
+      go (order.Lock mask action) f = refl
+      go (order.Access w) f = refl
+      go (order.BlockWrite s at) f = refl
+      go (order.BlockErase s) f = refl
+      go (order.ReadPermalock rfu s) f = refl
+      go (order.Permalock rfu s at) f = refl
+
+  drop-lines : Dropped answerOf (layoutOf (a .image)) a r
+  drop-lines =
+      record {
+        access = λ q h c up w s d. says-12 q h (cover.Number c) (half.Access up) (order.Access w) s tt (not-both up (bitXor w c) _ _ d);
+        kill = λ q h c up w s d. says-12 q h (cover.Number c) (half.Kill up) (order.Kill w) s tt (not-both up (bitXor w c) _ _ d);
+        between = λ q h c p o s f d. says-12 q h c p o s f (comes-between p o h c d);
+      }
+
+  -- 10, where no half waits
+  says-10 : (q : Bool) (h : ℕ) (c : Cover) (o : Order) (e : ℕ) → Says a h o → Needs q c o → 6 ≤ length (a .room)
+      → codeOf (layoutOf (a .image)) (a .image) q (link h c half.Nothing) (a .frame) o ≡ code.Error e
+      → hears answerOf a (on (linked q (link h c half.Nothing)) false r) ≡ errs a r q h half.Nothing e
+  unfolding handed replied-as
+  says-10 q h c o e s f l d = go q f d
+    where
+      x : Heard
+      x = heard.Said (record { number = h; order = o })
+
+      go : (q : Bool) → Needs q c o → codeOf (layoutOf (a .image)) (a .image) q (link h c half.Nothing) (a .frame) o ≡ code.Error e
+          → hears answerOf a (on (linked q (link h c half.Nothing)) false r) ≡ errs a r q h half.Nothing e
+      go true f d =
+          row-10 (layoutOf (a .image)) a (state.Secured (link h c half.Nothing)) r idle x (s .heard) refl (ap not (s .right)) e
+          (has-right h c half.Nothing true (asksOf o) (has o true c f)) refl d l
+      go false f d =
+          row-10 (layoutOf (a .image)) a (state.Open (link h c half.Nothing)) r idle x (s .heard) refl (ap not (s .right)) e
+          (has-right h c half.Nothing false (asksOf o) (has o false c f)) refl d l
+
+  -- what a writing command brings is what its code is asked of
+  brings-needs : (o : Order) (q : Bool) (c : Cover) (b p n pc : ℕ) → Brings a c o b p n pc → Needs q c o
+  brings-needs order.ReqRn q c b p n pc f = tt
+  brings-needs (order.Read s) q c b p n pc f = tt
+  brings-needs (order.Write s w) q cover.Nothing b p n pc f = absurd f
+  brings-needs (order.Write s w) q (cover.Number k) b p n pc f = tt
+  brings-needs (order.Kill w) q c b p n pc f = absurd f
+  brings-needs (order.Lock mask action) q c b p n pc f = absurd f
+  brings-needs (order.Access w) q c b p n pc f = absurd f
+  brings-needs (order.BlockWrite s at) q c b p n pc f = rw (f .0) (f .1)
+  brings-needs (order.BlockErase s) q c b p n pc f = rw (f .0) (f .1)
+  brings-needs (order.ReadPermalock rfu s) q c b p n pc f = absurd f
+  brings-needs (order.Permalock rfu s at) q c b p n pc f = absurd f
+
+  brings-code : (o : Order) (q : Bool) (h : ℕ) (c : Cover) (b p n pc : ℕ) → Brings a c o b p n pc
+      → codeOf (layoutOf (a .image)) (a .image) q (link h c half.Nothing) (a .frame) o ≡ writeCode (layoutOf (a .image)) (a .image) q (span b p n) pc
+  brings-code order.ReqRn q h c b p n pc f = absurd f
+  brings-code (order.Read s) q h c b p n pc f = absurd f
+  brings-code (order.Write s w) q h cover.Nothing b p n pc f = absurd f
+  brings-code (order.Write s w) q h (cover.Number k) b p n pc f = rw (f .0, f .1, f .2)
+  brings-code (order.Kill w) q h c b p n pc f = absurd f
+  brings-code (order.Lock mask action) q h c b p n pc f = absurd f
+  brings-code (order.Access w) q h c b p n pc f = absurd f
+  brings-code (order.BlockWrite s at) q h c b p n pc f = rw (f .0, f .2)
+  brings-code (order.BlockErase s) q h c b p n pc f = rw (f .0, f .2)
+  brings-code (order.ReadPermalock rfu s) q h c b p n pc f = absurd f
+  brings-code (order.Permalock rfu s at) q h c b p n pc f = absurd f
+
+  module _ (l : 6 ≤ length (a .room)) where
+    error-lines : (q : Bool) (h : ℕ) (c : Cover) → Errors answerOf (layoutOf (a .image)) a r q h c
+    error-lines q h c =
+        record {
+          read-past = λ b p n s f. says-10 q h c (order.Read (span b p n)) 0x03 s tt l (codes.read-past (layoutOf (a .image)) (a .image) q b p n f);
+          read-right = λ b p n j s w d e. says-10 q h c (order.Read (span b p n)) 0x04 s tt l (codes.read-right (layoutOf (a .image)) (a .image) q b p n j w d e);
+          write-past = λ o b p n pc s f d.
+              says-10 q h c o 0x03 s (brings-needs o q c b p n pc f) l (brings-code o q h c b p n pc f ∙ codes.write-past (layoutOf (a .image)) (a .image) q b p n pc d);
+          write-right = λ o b p n pc j s f w i e.
+              says-10 q h c o 0x04 s (brings-needs o q c b p n pc f) l (brings-code o q h c b p n pc f ∙ codes.write-right (layoutOf (a .image)) (a .image) q b p n pc j w i e);
+          write-pc = λ o b p n pc s f w g t e.
+              says-10 q h c o 0x03 s (brings-needs o q c b p n pc f) l (brings-code o q h c b p n pc f ∙ codes.write-pc (layoutOf (a .image)) (a .image) q b p n pc w g t e);
+          write-many = λ o b p n pc s f w g t e.
+              says-10 q h c o 0x00 s (brings-needs o q c b p n pc f) l (brings-code o q h c b p n pc f ∙ codes.write-many (layoutOf (a .image)) (a .image) q b p n pc w g t e);
+          kill-zero = λ k w e s u v.
+              says-10 q h c (order.Kill w) 0x00 s (subst Covered (sym e) tt) l
+              (ap₂ (λ (t x : Bool). cond (t && x) (code.Error 0x00) code.Nothing) (eq-eqb (killWord (layoutOf (a .image)) (a .image) 0) 0 u) (eq-eqb (killWord (layoutOf (a .image)) (a .image) 1) 0 v));
+        }
+
+    lock-lines : (h : ℕ) (c : Cover) → Locks answerOf (layoutOf (a .image)) a r h c
+    lock-lines h c =
+        record {
+          lock-pair = λ mask action k s i e d. says-10 true h c (order.Lock mask action) 0x04 s refl l (codes.lock-pair (layoutOf (a .image)) (a .image) mask action k i e d);
+          lock-user = λ mask action b s f e d i g.
+              says-10 true h c (order.Lock mask action) 0x04 s refl l (codes.lock-user (layoutOf (a .image)) (a .image) mask action b f e d i g);
+          perma-read = λ b p n s i d. says-10 true h c (order.ReadPermalock 0 (span b p n)) 0x03 s (refl, refl, i) l (codes.perma-read (layoutOf (a .image)) b p n d);
+          perma-past = λ b p n at s i d.
+              says-10 true h c (order.Permalock 0 (span b p n) at) 0x03 s (refl, refl, i) l (codes.perma-past (layoutOf (a .image)) (a .image) (a .frame) p n at b d);
+          perma-mask = λ p n at k s i w j d e.
+              says-10 true h c (order.Permalock 0 (span 3 p n) at) 0x03 s (refl, refl, i) l (codes.perma-mask (layoutOf (a .image)) (a .image) (a .frame) p n at k w j d e);
+          perma-user = λ p n at s i w g e d.
+              says-10 true h c (order.Permalock 0 (span 3 p n) at) 0x04 s (refl, refl, i) l (codes.perma-user (layoutOf (a .image)) (a .image) (a .frame) p n at w g e d);
+        }
+
+-- for any layout that the image has
+own-layout : (y : Layout) (m : List ℕ) → Idle y m → y ≡ layoutOf m
+own-layout y m idle = check-good m y (idle .sound) .layout
+
+own-idle : (y : Layout) (m : List ℕ) → Idle y m → Idle (layoutOf m) m
+own-idle y m idle = subst (λ (z : Layout). Idle z m) (own-layout y m idle) idle
+
+pub refusals : Refusals answerOf
+refusals =
+    record {
+      unready = λ a. record { bad-image = bad-image a; off = off a; pends = pends a; held = held a };
+      unheard = λ y a st r idle.
+          record {
+            malformed = row-7 y a st r idle;
+            checksum = λ c h e. row-8 y a st r idle (heard.Said c) h refl (ap not e);
+          };
+      wrong = λ y a r idle. wrongs a r (own-idle y (a .image) idle);
+      dropped = λ y a r idle. subst (λ (z : Layout). Dropped answerOf z a r) (sym (own-layout y (a .image) idle)) (drop-lines a r (own-idle y (a .image) idle));
+      errors = λ y a r q h c idle l.
+          subst (λ (z : Layout). Errors answerOf z a r q h c) (sym (own-layout y (a .image) idle)) (error-lines a r (own-idle y (a .image) idle) l q h c);
+      locks = λ y a r h c idle l.
+          subst (λ (z : Layout). Locks answerOf z a r h c) (sym (own-layout y (a .image) idle)) (lock-lines a r (own-idle y (a .image) idle) l h c);
+    }
