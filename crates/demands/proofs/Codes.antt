@@ -141,8 +141,11 @@ module _ (y : Layout) (m : List ℕ) (f : List ℕ) (p n at : ℕ) where
   pub perma-mask : (k : ℕ) → p + n ≤ y .perma .words → k < 16 * n → bitAt f (at + k) ≢ 0 → blocksIn y ≤ 16 * p + k → permaCode y m (span 3 p n) f at ≡ code.Error 0x03
   unfolding permaCode
   perma-mask k l i d e =
-      rw (in-perma l, every-not (λ k. eqb (bitAt f (at + k)) 0 || ltb (16 * p + k) (blocksIn y)) (16 * n) k i
-      (ap₂ (λ (t u : Bool). t || u) (ne-eqb (bitAt f (at + k)) 0 d) (le-ltb (16 * p + k) (blocksIn y) e)))
+      rw (
+        in-perma l,
+        every-not (λ k. eqb (bitAt f (at + k)) 0 || ltb (16 * p + k) (blocksIn y)) (16 * n) k i
+            (ap₂ (λ (t u : Bool). t || u) (ne-eqb (bitAt f (at + k)) 0 d) (le-ltb (16 * p + k) (blocksIn y) e)),
+      )
 
   pub perma-user : p + n ≤ y .perma .words → ((k : ℕ) → k < 16 * n → bitAt f (at + k) ≢ 0 → 16 * p + k < blocksIn y)
       → pwdBit (lockWord y m) 4 ≡ 0 → permaBit (lockWord y m) 4 ≡ 1 → permaCode y m (span 3 p n) f at ≡ code.Error 0x04

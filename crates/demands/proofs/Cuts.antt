@@ -85,15 +85,15 @@ module _ (y : Layout) (m : List ℕ) (g : Good y m) where
       go (no n) = let z : countIn y m ≡ 0 = omega arith in omega (arith, power-idle y m z)
 
 -- a power-up that is cut is a cut of its stores; power-ups from an image from which every cut one leaves a good image
-pub power-torn : (y : Layout) (m : List ℕ) → Good y m → (f : Cut) → powerUps (f ∷ []) m ≡ cutPowerUp f m
+pub power-torn : (y : Layout) (m : List ℕ) → Good y m → (f : Cut) → powerUps answerOf (f ∷ []) m ≡ cutPowerUp f m
 power-torn y m g f = ap₂ (withByte (f .byte)) (power-image y m g (suc (f .whole))) (power-image y m g (f .whole))
 
-powers-cut : (y : Layout) (fs : List Cut) (m : List ℕ) → ((ds : List Cut) → Good y (cutPowerUps ds m)) → powerUps fs m ≡ cutPowerUps fs m
+powers-cut : (y : Layout) (fs : List Cut) (m : List ℕ) → ((ds : List Cut) → Good y (cutPowerUps ds m)) → powerUps answerOf fs m ≡ cutPowerUps fs m
 powers-cut y [] m g = refl
-powers-cut y (f ∷ fs) m g = ap (powerUps fs) (power-torn y m (g []) f) ∙ powers-cut y fs (cutPowerUp f m) (λ ds. g (f ∷ ds))
+powers-cut y (f ∷ fs) m g = ap (powerUps answerOf fs) (power-torn y m (g []) f) ∙ powers-cut y fs (cutPowerUp f m) (λ ds. g (f ∷ ds))
 
 -- a command's two images
-pub torn-told : (t : Tag) (c : Storing) (k j : ℕ) → torn t (told c k) j ≡ withByte j (answerOf t (told c (suc k)) .image) (answerOf t (told c k) .image)
+pub torn-told : (t : Tag) (c : Storing) (k j : ℕ) → torn answerOf t (told c k) j ≡ withByte j (answerOf t (told c (suc k)) .image) (answerOf t (told c k) .image)
 torn-told t (byRadio f bits fresh room) k j = refl
 torn-told t (byPort at d) k j = refl
 
@@ -105,7 +105,7 @@ count-of w n (x ∷ xs) e =
     let z : 3 * length (x ∷ xs) + 2 ≡ 3 * n + 2 = sym (change-needs w (x ∷ xs) ∙ ap (λ (t : Bool). cond t 0 (3 * length (x ∷ xs) + 2)) (ne-eqb _ _ d)) ∙ e in
     omega arith
 
-module _ (y : Layout) (t : Tag) (c : Storing) (n enough : ℕ) (h : Stores y t c n enough) (ws : List Store) (a : Acting y t c ws) where
+module _ (y : Layout) (t : Tag) (c : Storing) (n enough : ℕ) (h : Stores answerOf y t c n enough) (ws : List Store) (a : Acting y t c ws) where
   g : Good y (t .image)
   g = check-good (t .image) y (h .idle .sound)
 
@@ -123,12 +123,12 @@ module _ (y : Layout) (t : Tag) (c : Storing) (n enough : ℕ) (h : Stores y t c
 
   module _ (f : Cut) (fs : List Cut) where
     left : List ℕ
-    left = powerUps fs (torn t (told c (f .whole)) (f .byte))
+    left = powerUps answerOf fs (torn answerOf t (told c (f .whole)) (f .byte))
 
     left-image : left ≡ cutImage y (t .image) ws f fs
     unfolding left
     left-image =
-        ap (powerUps fs) (torn-told t c (f .whole) (f .byte) ∙ ap₂ (withByte (f .byte)) (a .image (suc (f .whole))) (a .image (f .whole)))
+        ap (powerUps answerOf fs) (torn-told t c (f .whole) (f .byte) ∙ ap₂ (withByte (f .byte)) (a .image (suc (f .whole))) (a .image (f .whole)))
         ∙ powers-cut y fs (cutAfter f (t .image) (changeStores (y .work .at) ws)) (laws .good f)
 
     left-good : Good y left
@@ -154,7 +154,7 @@ module _ (y : Layout) (t : Tag) (c : Storing) (n enough : ℕ) (h : Stores y t c
       ap (λ (x : List ℕ). wordAt x i) (power-whole y _ (subst (Good y) (sym done) (laws .good d [])) k z ∙ ap powerUp done)
       ∙ laws .new d [] (omega (arith, needs, words, whole)) i l
 
-  unbroken : (f : Cut) (fs : List Cut) → Unbroken y t c n enough (reaches y f) (powerUps fs (torn t (told c (f .whole)) (f .byte)))
+  unbroken : (f : Cut) (fs : List Cut) → Unbroken answerOf y t c n enough (reaches y f) (powerUps answerOf fs (torn answerOf t (told c (f .whole)) (f .byte)))
   unfolding left
   unbroken f fs =
       record {
@@ -168,11 +168,11 @@ module _ (y : Layout) (t : Tag) (c : Storing) (n enough : ℕ) (h : Stores y t c
             ap (λ (r : Result). r .number) (power-done y m (left-good f fs) u few));
       }
 
-pub demand-3 : Demand3
+pub demand-3 : Demand3 answerOf
 demand-3 y t c n enough h f fs = go (acts y t c enough (check-good (t .image) y (h .idle .sound)))
   where
     go : Refused (t .image) (answerOf t (told c enough)) ⊎ Acting y t c (wordsOf t c)
-        → Unbroken y t c n enough (reaches y f) (powerUps fs (torn t (told c (f .whole)) (f .byte)))
+        → Unbroken answerOf y t c n enough (reaches y f) (powerUps answerOf fs (torn answerOf t (told c (f .whole)) (f .byte)))
     go (inl r) = absurd (omega (arith, h .done, r .1))
     go (inr a) = unbroken y t c n enough h (wordsOf t c) a f fs
 

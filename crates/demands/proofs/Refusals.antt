@@ -1,17 +1,18 @@
 -- When a frame is refused: each line of the refusals is a row of the table with the rows before it excluded. Assumes nothing.
-use Prim.Native.Nat.{ℕ, zero, suc, _+_, _≤_}
+use Prim.Native.Nat.{ℕ, zero, suc, _+_, _*_, _/_, _%_, _≤_, _<_}
 use mathlib.Core.Path.{_≡_, refl, sym, ap, ap₂, _∙_, subst}
 use mathlib.Core.Logic.{_≢_, _⊎_, inl, inr}
 use mathlib.Core.Bool.{true≢false, Bool, true, false, cond, not, _&&_, _||_}
 use mathlib.Core.List.{List, [], _∷_, _++_}
 use native.Mathlib.Omega.{arith}
 use lib.Bits.{bitXor}
-use lib.Dec.{eqb}
-use lib.ListN.{length, drop}
-use borrow.Author.Tests.{eq-eqb, ne-eqb, le-ltb}
+use lib.Dec.{eqb, ltb}
+use lib.ListN.{length, take, drop}
+use borrow.Author.Tests.{eq-eqb, ne-eqb, le-ltb, lt-ltb}
+use Rattle.bits.specs.Words.{after}
 use Rattle.bits.specs.First.{first}
 use Rattle.image.specs.declared.Layout.{Layout}
-use Rattle.image.specs.Layout.{layoutOf}
+use Rattle.image.specs.Layout.{layoutOf, pairsIn}
 use Rattle.image.specs.Content.{countIn}
 use Rattle.image.specs.Check.{checkOf, refused, good, short, headerWrong, contentBroken, imageRows}
 use Rattle.image.proofs.Answers.{check-good, check-0}
@@ -27,6 +28,7 @@ use Rattle.replies.specs.Pack.{packed}
 use Rattle.rights.specs.declared.Code.{Code}
 use Rattle.rights.specs.declared.Code.the-variants as code
 use Rattle.rights.specs.Rights.{writeCode}
+use Rattle.stores.specs.Stores.{changeStores}
 use Rattle.tag.specs.declared.Cover.{Cover}
 use Rattle.tag.specs.declared.Cover.the-variants as cover
 use Rattle.tag.specs.declared.Half.{Half}
@@ -40,15 +42,17 @@ use Rattle.tag.specs.declared.State.{State}
 use Rattle.tag.specs.declared.State.the-variants as state
 use Rattle.tag.specs.declared.Session.{Session}
 use Rattle.tag.specs.Session.{offSession, on}
-use Rattle.tag.specs.Result.{Result}
-use Rattle.tag.specs.Commands.{asks, asksOf, linkOf, isCovered, wrong, wrongBy, killWord, breaks, codeOf, used}
-use Rattle.tag.specs.Table.{Input, input, said, malformed, checksumWrong, broken, errorCode, newState, doneReply, storesOf, isError, replyOr, replyOf, fits, replied, everything, dropped, rows, frameOf, isOff}
-use Rattle.demands.specs.Calls.{answerOf, Idle}
+use Rattle.tag.specs.Result.{Result, leaves}
+use Rattle.tag.specs.Commands.{isKilled, asks, asksOf, linkOf, isCovered, wrong, wrongBy, killWord, breaks, codeOf, used}
+use Rattle.tag.specs.Table.{Input, input, said, malformed, checksumWrong, broken, errorCode, newState, doneReply, storesOf, isError, replyOr, replyOf, fits, replied, everything, dropped, rows, frameOf, liveOf, isOff, isArbitrate, admitOf}
+use Rattle.tag.specs.Power.{started, powerUpOf}
+use Rattle.tag.specs.Port.{badCount, badData, refusals, transferred, registerTo, withKilled, withUnwritten, someUnwritten, readBits, portWords, askOf, releaseOf, registerOf, readOf, writeOf}
+use Rattle.demands.specs.Calls.{Call, asked, powerUp, ask, read, write, answerOf, Idle}
 use Rattle.demands.specs.Commands.{Air, linked, link, Says}
 use Rattle.demands.proofs.Rows.{Rows}
 use Rattle.demands.proofs.Codes.{or-right, and-false}
 use Rattle.demands.proofs.Codes as codes
-use Rattle.demands.specs.Refusals.{hears, stays, drops, errs, Covered, Needs, Other, Brings, Wrong, Dropped, Errors, Locks, Refusals}
+use Rattle.demands.specs.Refusals.{hears, stays, drops, errs, Covered, Needs, Other, Brings, Wrong, Dropped, Errors, Locks, Alone, BadCount, Transfer, Port, Refusals}
 
 -- row k holds, and none before it
 abbrev Reaches : ℕ → Rows → Type 0
@@ -66,6 +70,19 @@ first-at k [] last h = absurd h
 first-at zero (r ∷ rs) last h = ap (λ (b : Bool). cond b (r .0) (first rs last)) h
 first-at (suc k) (r ∷ rs) last h = ap (λ (b : Bool). cond b (r .0) (first rs last)) (h .0) ∙ first-at k rs last (h .1)
 
+-- an image that is not good: its number's row, whatever comes after
+image-first : (m : List ℕ) (leaving : ℕ → Result) (more : Rows) (last : Result) (n : ℕ) → checkOf m ≡ refused n → first (imageRows leaving m ++ more) last ≡ leaving n
+unfolding checkOf
+image-first m leaving more last n e = go (short m) (headerWrong m) (contentBroken m) refl refl refl e
+  where
+    go : (x y z : Bool) → short m ≡ x → headerWrong m ≡ y → contentBroken m ≡ z
+        → cond x (refused 1) (cond y (refused 2) (cond z (refused 3) (good (layoutOf m)))) ≡ refused n
+        → first (imageRows leaving m ++ more) last ≡ leaving n
+    go true y z p q r e = let i : 1 ≡ n = cc in rw (p, ← i)
+    go false true z p q r e = let i : 2 ≡ n = cc in rw (p, q, ← i)
+    go false false true p q r e = let i : 3 ≡ n = cc in rw (p, q, r, ← i)
+    go false false false p q r e = absurd (let z : _≡_ {A = ℕ} 0 1 = cc in omega arith)
+
 -- what a frame comes to where no row holds
 last : Input → Result
 last i = replied i 0 (newState i (said i)) (storesOf i)
@@ -76,16 +93,8 @@ module _ (a : Air) where
   handed-to s = input s (a .image) (a .frame) (a .bits) (a .fresh) (a .room) (a .power)
 
   bad-image : (s : Session) (n : ℕ) → checkOf (a .image) ≡ refused n → hears answerOf a s ≡ stays n a s
-  unfolding frameOf checkOf
-  bad-image s n e = go (short (a .image)) (headerWrong (a .image)) (contentBroken (a .image)) refl refl refl e
-    where
-      go : (x y z : Bool) → short (a .image) ≡ x → headerWrong (a .image) ≡ y → contentBroken (a .image) ≡ z
-          → cond x (refused 1) (cond y (refused 2) (cond z (refused 3) (good (layoutOf (a .image))))) ≡ refused n
-          → hears answerOf a s ≡ stays n a s
-      go true y z p q r e = let i : 1 ≡ n = cc in rw (p, ← i)
-      go false true z p q r e = let i : 2 ≡ n = cc in rw (p, q, ← i)
-      go false false true p q r e = let i : 3 ≡ n = cc in rw (p, q, r, ← i)
-      go false false false p q r e = absurd (let z : _≡_ {A = ℕ} 0 1 = cc in omega arith)
+  unfolding frameOf handed-to last
+  bad-image s n e = image-first (a .image) (everything (handed-to s)) (drop 3 (rows (handed-to s))) (last (handed-to s)) n e
 
   off : (y : Layout) → checkOf (a .image) ≡ good y → hears answerOf a offSession ≡ stays 5 a offSession
   unfolding frameOf
@@ -96,11 +105,16 @@ module _ (a : Air) where
   pends y s e n =
       let c = check-0 (a .image) y (sym e) in
       let d : countIn (layoutOf (a .image)) (a .image) ≢ 0 = subst (λ (z : Layout). countIn z (a .image) ≢ 0) (check-good (a .image) y e .layout) n in
-      first-at 3 (rows (handed-to s)) (last (handed-to s))
-      (c .0,
-      (c .1,
-      (c .2,
-      ap (λ (b : Bool). isOff (s .power) || not b) (ne-eqb (countIn (layoutOf (a .image)) (a .image)) 0 d) ∙ or-right (isOff (s .power)) true refl)))
+      first-at 3 (rows (handed-to s)) (last (handed-to s)) (
+        c .0,
+        (
+          c .1,
+          (
+            c .2,
+            ap (λ (b : Bool). isOff (s .power) || not b) (ne-eqb (countIn (layoutOf (a .image)) (a .image)) 0 d) ∙ or-right (isOff (s .power)) true refl,
+          ),
+        ),
+      )
 
   held : (y : Layout) (st : State) (r : Register) → Idle y (a .image) → hears answerOf a (on st true r) ≡ stays 6 a (on st true r)
   unfolding frameOf
@@ -166,12 +180,19 @@ module _ (y : Layout) (a : Air) (st : State) (r : Register) (idle : Idle y (a .i
         let code-is : errorCode handed (said handed) ≡ code.Error e = ap (errorCode handed) h ∙ c in
         let reply-is : replyOf handed ≡ reply.Error e (linkOf st .handle) = ap (λ (q : Code). replyOr q (linkOf st .handle) (doneReply handed (said handed))) code-is in
         first-at 9 (rows handed) (last handed)
-        (ready 4 (drop 5 (rows handed))
-        (ap malformed h ∙ m,
-        (ap (checksumWrong (a .frame) (a .bits)) h ∙ k,
-        (ap (wrong st) h ∙ w,
-        (ap (broken handed) h ∙ b,
-        ap₂ (λ (q : Code) (z : Reply). isError q && fits z (a .room)) code-is reply-is ∙ ap not (le-ltb (length (a .room)) 6 l))))))
+        (ready 4 (drop 5 (rows handed)) (
+          ap malformed h ∙ m,
+          (
+            ap (checksumWrong (a .frame) (a .bits)) h ∙ k,
+            (
+              ap (wrong st) h ∙ w,
+              (
+                ap (broken handed) h ∙ b,
+                ap₂ (λ (q : Code) (z : Reply). isError q && fits z (a .room)) code-is reply-is ∙ ap not (le-ltb (length (a .room)) 6 l),
+              ),
+            ),
+          ),
+        ))
         ∙ ap replied-as reply-is
 
 -- what it lacks, or that it has it all
@@ -443,6 +464,155 @@ module _ (a : Air) (r : Register) (idle : Idle (layoutOf (a .image)) (a .image))
               says-10 true h c (order.Permalock 0 (span 3 p n) at) 0x04 s (refl, refl, i) l (codes.perma-user (layoutOf (a .image)) (a .image) (a .frame) p n at w g e d);
         }
 
+-- calls without an image
+not-arbitrate : (st : State) → st ≢ state.Arbitrate → not (isArbitrate st) ≡ true
+not-arbitrate state.Arbitrate d = absurd (d refl)
+not-arbitrate (state.Acknowledged n) d = refl
+not-arbitrate (state.Open k) d = refl
+not-arbitrate (state.Secured k) d = refl
+not-arbitrate state.Killed d = refl
+
+alone-lines : (m : List ℕ) → Alone answerOf m
+unfolding admitOf askOf releaseOf registerOf
+alone-lines m =
+    record {
+      admit-off = λ n. refl;
+      admit-held = λ st r n. refl;
+      admit-state = λ st r n d. rw (not-arbitrate st d);
+      ask-off = refl;
+      ask-held = λ st r. refl;
+      ask-linked = linked-so;
+      release-off = refl;
+      release-free = λ st r. refl;
+      register-off = refl;
+      register-free = λ st r. refl;
+    }
+  where
+    linked-so : (q : Bool) (h : ℕ) (c : Cover) (p : Half) (r : Register)
+        → asked answerOf (on (linked q (link h c p)) false r) m ask ≡ leaves 6 (on (linked q (link h c p)) false r) [] []
+    linked-so true h c p r = refl
+    linked-so false h c p r = refl
+
+-- the session's part of row 5
+pends-so : (y : Layout) (m : List ℕ) (s : Session) → checkOf m ≡ good y → countIn y m ≢ 0 → isOff (s .power) || not (eqb (countIn (layoutOf m) m) 0) ≡ true
+pends-so y m s e n =
+    ap (λ (b : Bool). isOff (s .power) || not b)
+    (ne-eqb (countIn (layoutOf m) m) 0 (subst (λ (z : Layout). countIn z m ≢ 0) (check-good m y e .layout) n))
+    ∙ or-right (isOff (s .power)) true refl
+
+-- SPI transfers: rows that begin with the port's refusals, and what is given where none holds
+record Listed (m room : List ℕ) (c : Call) (bad : Bool) : Type 0 where
+  more : Session → Rows
+  last : Session → Result
+  same : (s : Session) → asked answerOf s m c ≡ first (refusals s m room bad ++ more s) (last s)
+
+module _ (m room : List ℕ) (c : Call) (bad : Bool) (x : Listed m room c bad) where
+  all : Session → Rows
+  all s = refusals s m room bad ++ x .more s
+
+  row-5 : (y : Layout) (s : Session) → checkOf m ≡ good y → isOff (s .power) || not (eqb (countIn (layoutOf m) m) 0) ≡ true → asked answerOf s m c ≡ leaves 5 s m room
+  unfolding all
+  row-5 y s e d = let k = check-0 m y (sym e) in x .same s ∙ first-at 3 (all s) (x .last s) (k .0, (k .1, (k .2, d)))
+
+  module _ (y : Layout) (idle : Idle y m) (st : State) (b : Bool) (r : Register) where
+    idle-5 : not (eqb (countIn (layoutOf m) m) 0) ≡ false
+    idle-5 = ap not (eq-eqb (countIn (layoutOf m) m) 0 (subst (λ (x : Layout). countIn x m ≡ 0) (check-good m y (idle .sound) .layout) (idle .nothing)))
+
+    row-6 : b ≡ false → asked answerOf (on st b r) m c ≡ leaves 6 (on st b r) m room
+    unfolding all
+    row-6 e =
+        let k = check-0 m y (sym (idle .sound)) in
+        x .same (on st b r) ∙ first-at 4 (all (on st b r)) (x .last (on st b r)) (k .0, (k .1, (k .2, (idle-5, ap not e))))
+
+    row-13 : b ≡ true → bad ≡ true → asked answerOf (on st b r) m c ≡ leaves 13 (on st b r) m room
+    unfolding all
+    row-13 e d =
+        let k = check-0 m y (sym (idle .sound)) in
+        x .same (on st b r) ∙ first-at 5 (all (on st b r)) (x .last (on st b r)) (k .0, (k .1, (k .2, (idle-5, (ap not e, d)))))
+
+    -- past 13
+    row-more : (k : ℕ) → b ≡ true → bad ≡ false → Reaches k (x .more (on st b r))
+        → asked answerOf (on st b r) m c ≡ rowAt k (x .more (on st b r)) (x .last (on st b r))
+    unfolding all
+    row-more k e d h =
+        let i = check-0 m y (sym (idle .sound)) in
+        x .same (on st b r)
+        ∙ first-at (suc (suc (suc (suc (suc (suc k)))))) (all (on st b r)) (x .last (on st b r)) (i .0, (i .1, (i .2, (idle-5, (ap not e, (d, h))))))
+
+  transfer-lines : Transfer answerOf m c room
+  unfolding all
+  transfer-lines =
+      record {
+        bad-image = λ s n e. x .same s ∙ image-first m (λ k. leaves k s m room) (drop 3 (all s)) (x .last s) n e;
+        off = λ y e. row-5 y offSession e refl;
+        pends = λ y s e n. row-5 y s e (pends-so y m s e n);
+        free = λ y st r idle. row-6 y idle st false r refl;
+      }
+
+read-listed : (m : List ℕ) (at n : ℕ) (room : List ℕ) → Listed m room (read at n room) (badCount (layoutOf m) at n)
+unfolding readOf
+read-listed m at n room =
+    record {
+      more = λ s. (leaves 4 s m room, ltb (length room) (2 * n)) ∷ [];
+      last = λ s.
+          let l = liveOf (s .power) in
+          let killed = isKilled (l .state) in
+          transferred 0 (registerTo l (cond killed (withKilled (l .register)) (l .register))) (16 * n) 0 m (packed (readBits (layoutOf m) m killed at n) room);
+      same = λ s. refl;
+    }
+
+write-listed : (m : List ℕ) (at : ℕ) (d : List ℕ) (u : ℕ) → Listed m [] (write at d u) (badData (layoutOf m) at d)
+unfolding writeOf
+write-listed m at d u =
+    record {
+      more = λ s.
+          let stores = changeStores (layoutOf m .work .at) (portWords (layoutOf m) m (isKilled (liveOf (s .power) .state)) at d) in
+          (transferred 11 offSession 0 u (after m (take u stores)) [], ltb u (length stores)) ∷ [];
+      last = λ s.
+          let l = liveOf (s .power) in
+          let killed = isKilled (l .state) in
+          let stores = changeStores (layoutOf m .work .at) (portWords (layoutOf m) m killed at d) in
+          transferred 0
+          (registerTo l (cond killed (withKilled (l .register)) (withUnwritten (someUnwritten (layoutOf m) m at (length d / 2)) (l .register))))
+          0 (length stores) (after m stores) [];
+      same = λ s. refl;
+    }
+
+-- counts
+bad-count : (y : Layout) (at n : ℕ) → BadCount y at n → badCount y at n ≡ true
+bad-count y at n (inl e) = ap (λ (b : Bool). b || ltb 255 n || ltb (y .user .words) (at + n)) (eq-eqb n 0 e)
+bad-count y at n (inr (inl l)) = or-middle (eqb n 0) (ltb 255 n) (ltb (y .user .words) (at + n)) (lt-ltb 255 n l)
+bad-count y at n (inr (inr l)) = or-right (eqb n 0 || ltb 255 n) (ltb (y .user .words) (at + n)) (lt-ltb (y .user .words) (at + n) l)
+
+good-count : (y : Layout) (at n : ℕ) → 1 ≤ n → n ≤ 255 → at + n ≤ y .user .words → badCount y at n ≡ false
+good-count y at n a b c = rw (ne-eqb n 0 (omega arith), le-ltb 255 n b, le-ltb (y .user .words) (at + n) c)
+
+bad-data : (y : Layout) (at n : ℕ) (d : List ℕ) → length d ≡ 2 * n → BadCount y at n ⊎ (pairsIn y < n) → badData y at d ≡ true
+bad-data y at n d e f =
+    let h : length d / 2 ≡ n = omega (arith, e) in
+    let z : eqb (length d % 2) 0 ≡ true = eq-eqb (length d % 2) 0 (omega (arith, e)) in
+    rw (z, h) (go f)
+  where
+    go : BadCount y at n ⊎ (pairsIn y < n) → badCount y at n || ltb (pairsIn y) n ≡ true
+    go (inl g) = ap (λ (b : Bool). b || ltb (pairsIn y) n) (bad-count y at n g)
+    go (inr l) = or-right (badCount y at n) (ltb (pairsIn y) n) (lt-ltb (pairsIn y) n l)
+
+port-lines : (m : List ℕ) (st : State) (r : Register) → Idle (layoutOf m) m → Port answerOf (layoutOf m) m st r
+unfolding read-listed
+port-lines m st r idle =
+    record {
+      read-count = λ at n room f.
+          row-13 m room (read at n room) (badCount (layoutOf m) at n) (read-listed m at n room) (layoutOf m) idle st true r refl (bad-count (layoutOf m) at n f);
+      read-room = λ at n room a b c l.
+          row-more m room (read at n room) (badCount (layoutOf m) at n) (read-listed m at n room) (layoutOf m) idle st true r 0 refl (good-count (layoutOf m) at n a b c)
+          (lt-ltb (length room) (2 * n) l);
+      write-odd = λ at d u f.
+          row-13 m [] (write at d u) (badData (layoutOf m) at d) (write-listed m at d u) (layoutOf m) idle st true r refl
+          (ap (λ (b : Bool). not b || badCount (layoutOf m) at (length d / 2) || ltb (pairsIn (layoutOf m)) (length d / 2)) (ne-eqb (length d % 2) 0 f));
+      write-count = λ at n d u e f.
+          row-13 m [] (write at d u) (badData (layoutOf m) at d) (write-listed m at d u) (layoutOf m) idle st true r refl (bad-data (layoutOf m) at n d e f);
+    }
+
 -- for any layout that the image has
 own-layout : (y : Layout) (m : List ℕ) → Idle y m → y ≡ layoutOf m
 own-layout y m idle = check-good m y (idle .sound) .layout
@@ -450,8 +620,12 @@ own-layout y m idle = check-good m y (idle .sound) .layout
 own-idle : (y : Layout) (m : List ℕ) → Idle y m → Idle (layoutOf m) m
 own-idle y m idle = subst (λ (z : Layout). Idle z m) (own-layout y m idle) idle
 
-pub refusals : Refusals answerOf
-refusals =
+start-refused : (m : List ℕ) (s : Session) (n u : ℕ) → checkOf m ≡ refused n → asked answerOf s m (powerUp u) ≡ leaves n offSession m []
+unfolding powerUpOf
+start-refused m s n u e = image-first m (λ k. leaves k offSession m []) [] (started (layoutOf m) m u) n e
+
+pub when-refused : Refusals answerOf
+when-refused =
     record {
       unready = λ a. record { bad-image = bad-image a; off = off a; pends = pends a; held = held a };
       unheard = λ y a st r idle.
@@ -465,4 +639,9 @@ refusals =
           subst (λ (z : Layout). Errors answerOf z a r q h c) (sym (own-layout y (a .image) idle)) (error-lines a r (own-idle y (a .image) idle) l q h c);
       locks = λ y a r h c idle l.
           subst (λ (z : Layout). Locks answerOf z a r h c) (sym (own-layout y (a .image) idle)) (lock-lines a r (own-idle y (a .image) idle) l h c);
+      power-up = λ m s n u e. start-refused m s n u e;
+      alone = alone-lines;
+      reads = λ m at n room. transfer-lines m room (read at n room) (badCount (layoutOf m) at n) (read-listed m at n room);
+      writes = λ m at d u. transfer-lines m [] (write at d u) (badData (layoutOf m) at d) (write-listed m at d u);
+      port = λ y m st r idle. subst (λ (z : Layout). Port answerOf z m st r) (sym (own-layout y m idle)) (port-lines m st r (own-idle y m idle));
     }

@@ -347,7 +347,7 @@ module _ (y : Layout) (m : List ℕ) (s : Steady y m) (h : Lows m) (v : Session)
   unfolding Next
   same-next j n o p q = subst Next (sym (ap₂ (withByte j) p q ∙ set-getD m j 0)) (stay y m s, h)
 
-  acting-next : (c : Storing) (k j : ℕ) → Acting y tag c (wordsOf tag c) → Next (torn tag (told c k) j)
+  acting-next : (c : Storing) (k j : ℕ) → Acting y tag c (wordsOf tag c) → Next (torn answerOf tag (told c k) j)
   unfolding tag Next
   acting-next c k j a =
       let d : Cut = record { whole = k; byte = j } in
@@ -355,12 +355,12 @@ module _ (y : Layout) (m : List ℕ) (s : Steady y m) (h : Lows m) (v : Session)
       subst Next (sym (torn-told tag c k j ∙ ap₂ (withByte j) (a .image (suc k)) (a .image k)))
       (change-step y m s h (a .idle) (wordsOf tag c) (a .plan) d, cut-lows d m xs h)
 
-  command-next : (c : Storing) (k j : ℕ) → Next (torn tag (told c k) j)
+  command-next : (c : Storing) (k j : ℕ) → Next (torn answerOf tag (told c k) j)
   unfolding tag
   command-next c k j = go (acts y tag c (suc k) (s .sound)) (acts y tag c k (s .sound))
     where
       go : Refused m (answerOf tag (told c (suc k))) ⊎ Acting y tag c (wordsOf tag c) → Refused m (answerOf tag (told c k)) ⊎ Acting y tag c (wordsOf tag c)
-          → Next (torn tag (told c k) j)
+          → Next (torn answerOf tag (told c k) j)
       go (inl p) (inl q) = subst Next (sym (torn-told tag c k j)) (same-next j _ _ (p .0) (q .0))
       go (inr a) q = acting-next c k j a
       go (inl p) (inr a) = acting-next c k j a
@@ -371,7 +371,7 @@ module _ (y : Layout) (m : List ℕ) (s : Steady y m) (h : Lows m) (v : Session)
       first-each (λ (r : Result). r .image ≡ m) (refusals v m room (badCount (layoutOf m) at count) ++ ((leaves 4 v m room, ltb (length room) (2 * count)) ∷ [])) _
       (λ e. refl, (λ e. refl, (λ e. refl, (λ e. refl, (λ e. refl, (λ e. refl, (λ e. refl, tt))))))) refl
 
-  next : (c : Call) (j : ℕ) → Next (torn tag c j)
+  next : (c : Call) (j : ℕ) → Next (torn answerOf tag c j)
   unfolding tag Next
   next (powerUp k) j =
       let d : Cut = record { whole = k; byte = j } in
@@ -402,20 +402,20 @@ keeps-then y m n g f i v l k =
         let w : j / 16 < y .perma .words = perma-word y m (g .header) j (block-small y m (g .header) (i - y .user .at) (omega arith)) in
         f (y .perma .at + j / 16) (omega (arith, w, g .header .work .at)) .blocks (omega arith) (omega (arith, w)) (15 - j % 16) e
 
-runs : (y : Layout) (m : List ℕ) (cs : List Turn) → Steady y m → Lows m → Step y m (run m cs) × Lows (run m cs)
+runs : (y : Layout) (m : List ℕ) (cs : List Turn) → Steady y m → Lows m → Step y m (run answerOf m cs) × Lows (run answerOf m cs)
 unfolding Next tag
 runs y m [] s h = (stay y m s, h)
 runs y m (c ∷ cs) s h =
-    let n = torn (record { session = c .session; image = m }) (c .call) (c .byte) in
+    let n = torn answerOf (record { session = c .session; image = m }) (c .call) (c .byte) in
     let a : Step y m n × Lows n = next y m s h (c .session) (c .call) (c .byte) in
     let b = runs y n cs (a .0 .steady) (a .1) in (
-      record { keeps = λ i l. keeps-then y m n (s .sound) (a .0 .keeps) i (wordAt (run n cs) i) l (b .0 .keeps i l); steady = b .0 .steady },
+      record { keeps = λ i l. keeps-then y m n (s .sound) (a .0 .keeps) i (wordAt (run answerOf n cs) i) l (b .0 .keeps i l); steady = b .0 .steady },
       b .1,
     )
 
-pub run-append : (m : List ℕ) (cs ds : List Turn) → run m (cs ++ ds) ≡ run (run m cs) ds
+pub run-append : (m : List ℕ) (cs ds : List Turn) → run answerOf m (cs ++ ds) ≡ run answerOf (run answerOf m cs) ds
 run-append m [] ds = refl
-run-append m (c ∷ cs) ds = run-append (torn (record { session = c .session; image = m }) (c .call) (c .byte)) cs ds
+run-append m (c ∷ cs) ds = run-append (torn answerOf (record { session = c .session; image = m }) (c .call) (c .byte)) cs ds
 
 -- what is kept word by word is what the buyer asks to be kept
 kept : (y : Layout) (m n : List ℕ) → Good y m → Step y m n → Kept y m n
@@ -434,10 +434,10 @@ kept y m n g s =
           f (y .user .at + i) (omega arith) .words (omega arith) (omega arith) (ap (λ (x : ℕ). permalock y m (x / y .block)) z ∙ e));
     }
 
-pub any-run : AnyRun
+pub any-run : AnyRun answerOf
 any-run y m before later bytes idle =
     let g = check-good m y (idle .sound) in
     let s : Steady y m = record { sound = g; plan = subst (Plan y m) (sym (none-pending y m (idle .nothing))) (no-plan y m) } in
     let a = runs y m before s (λ i. bytes (2 * i + 1)) in
-    let n = run m before in
-    rw (run-append m before later) (kept y n (run n later) (a .0 .steady .sound) (runs y n later (a .0 .steady) (a .1) .0))
+    let n = run answerOf m before in
+    rw (run-append m before later) (kept y n (run answerOf n later) (a .0 .steady .sound) (runs y n later (a .0 .steady) (a .1) .0))

@@ -270,7 +270,7 @@ fit-again fit.Header = refl
 fit-again fit.Content = refl
 fit-again (fit.Good y) = refl
 
-pub demand-1 : Demand1
+pub demand-1 : Demand1 answerOf
 demand-1 =
     record {
       check = λ m p q e f. sym (fit-again p) ∙ ap fitOf (e ∙ sym f) ∙ fit-again q;

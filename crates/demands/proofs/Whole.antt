@@ -34,12 +34,12 @@ wholes : List ℕ → List ℕ → List Cut
 wholes [] m = []
 wholes (k ∷ ks) m = let n = powerUpOf m k .image in record { whole = k; byte = length n } ∷ wholes ks n
 
-wholes-same : (ks m : List ℕ) → powerUps (wholes ks m) m ≡ wholePowerUps ks m
+wholes-same : (ks m : List ℕ) → powerUps answerOf (wholes ks m) m ≡ wholePowerUps answerOf ks m
 unfolding wholes
 wholes-same [] m = refl
 wholes-same (k ∷ ks) m =
     let n = powerUpOf m k .image in
-    ap (powerUps (wholes ks n)) (past (powerUpOf m (suc k) .image) n) ∙ wholes-same ks n
+    ap (powerUps answerOf (wholes ks n)) (past (powerUpOf m (suc k) .image) n) ∙ wholes-same ks n
 
 -- with the power for s stores, and no byte of the next
 module _ (y : Layout) (t : Tag) (c : Storing) (s : ℕ) where
@@ -49,9 +49,9 @@ module _ (y : Layout) (t : Tag) (c : Storing) (s : ℕ) where
   cut : Cut
   cut = record { whole = s; byte = length left }
 
-  left-same : (ks : List ℕ) → powerUps (wholes ks left) (torn t (told c (cut .whole)) (cut .byte)) ≡ wholePowerUps ks left
+  left-same : (ks : List ℕ) → powerUps answerOf (wholes ks left) (torn answerOf t (told c (cut .whole)) (cut .byte)) ≡ wholePowerUps answerOf ks left
   unfolding cut left
-  left-same ks = ap (powerUps (wholes ks left)) (torn-told t c s (length left) ∙ past (answerOf t (told c (suc s)) .image) left) ∙ wholes-same ks left
+  left-same ks = ap (powerUps answerOf (wholes ks left)) (torn-told t c s (length left) ∙ past (answerOf t (told c (suc s)) .image) left) ∙ wholes-same ks left
 
   -- the byte is behind WORK, so the stores that count are those that are made
   left-reaches : Good y (t .image) → (ws : List Store) → Acting y t c ws → reaches y cut ≡ s
@@ -61,18 +61,18 @@ module _ (y : Layout) (t : Tag) (c : Storing) (s : ℕ) where
       let far : length left ≡ 2 * y .work .at + 1 → ⊥ = λ e. omega (arith, size, g .header .whole, g .header .work .least) in
       ap (λ (b : Bool). s + cond b 1 0) (ne-eqb (length left) (2 * y .work .at + 1) far) ∙ add-zero s
 
-pub whole-words : Demand3 → WholeWords
+pub whole-words : Demand3 answerOf → WholeWords answerOf
 unfolding left
 whole-words d y t c n enough h s ks = go (acts y t c enough g)
   where
     g : Good y (t .image)
     g = check-good (t .image) y (h .idle .sound)
 
-    all : Unbroken y t c n enough (reaches y (cut y t c s)) (wholePowerUps ks (left y t c s))
-    all = subst (Unbroken y t c n enough (reaches y (cut y t c s))) (left-same y t c s ks) (d y t c n enough h (cut y t c s) (wholes ks (left y t c s)))
+    all : Unbroken answerOf y t c n enough (reaches y (cut y t c s)) (wholePowerUps answerOf ks (left y t c s))
+    all = subst (Unbroken answerOf y t c n enough (reaches y (cut y t c s))) (left-same y t c s ks) (d y t c n enough h (cut y t c s) (wholes ks (left y t c s)))
 
     go : Refused (t .image) (answerOf t (told c enough)) ⊎ Acting y t c (wordsOf t c)
-        → Unbroken y t c n enough (answerOf t (told c s) .stores) (wholePowerUps ks (answerOf t (told c s) .image))
+        → Unbroken answerOf y t c n enough (answerOf t (told c s) .stores) (wholePowerUps answerOf ks (answerOf t (told c s) .image))
     go (inl r) = absurd (omega (arith, h .done, r .1))
     go (inr a) =
         let made = a .stores s in
@@ -88,31 +88,31 @@ whole-words d y t c n enough h s ks = go (acts y t c enough g)
 turns : List ℕ → List (Session × Call) → List Turn
 turns m [] = []
 turns m (c ∷ cs) =
-    let n = imageAfter (record { session = c .0; image = m }) (c .1) in
+    let n = imageAfter answerOf (record { session = c .0; image = m }) (c .1) in
     record { session = c .0; call = c .1; byte = length n } ∷ turns n cs
 
-turns-same : (m : List ℕ) (cs : List (Session × Call)) → run m (turns m cs) ≡ wholeRun m cs
+turns-same : (m : List ℕ) (cs : List (Session × Call)) → run answerOf m (turns m cs) ≡ wholeRun answerOf m cs
 unfolding turns
 turns-same m [] = refl
 turns-same m (c ∷ cs) =
     let t : Tag = record { session = c .0; image = m } in
-    let n = imageAfter t (c .1) in
-    ap (λ (x : List ℕ). run x (turns n cs)) (past (imageAfter t (more (c .1))) n) ∙ turns-same n cs
+    let n = imageAfter answerOf t (c .1) in
+    ap (λ (x : List ℕ). run answerOf x (turns n cs)) (past (imageAfter answerOf t (more (c .1))) n) ∙ turns-same n cs
 
-turns-append : (m : List ℕ) (cs ds : List (Session × Call)) → turns m (cs ++ ds) ≡ turns m cs ++ turns (wholeRun m cs) ds
+turns-append : (m : List ℕ) (cs ds : List (Session × Call)) → turns m (cs ++ ds) ≡ turns m cs ++ turns (wholeRun answerOf m cs) ds
 unfolding turns
 turns-append m [] ds = refl
-turns-append m (c ∷ cs) ds = rw (turns-append (imageAfter (record { session = c .0; image = m }) (c .1)) cs ds)
+turns-append m (c ∷ cs) ds = rw (turns-append (imageAfter answerOf (record { session = c .0; image = m }) (c .1)) cs ds)
 
-pub whole-runs : AnyRun → WholeRuns
+pub whole-runs : AnyRun answerOf → WholeRuns answerOf
 whole-runs a y m before later bytes idle =
-    subst (λ (n : List ℕ). Kept y n (wholeRun m (before ++ later))) (turns-same m before)
-    (subst (Kept y (run m (turns m before))) (ap (run m) (sym (turns-append m before later)) ∙ turns-same m (before ++ later))
-    (a y m (turns m before) (turns (wholeRun m before) later) bytes idle))
+    subst (λ (n : List ℕ). Kept y n (wholeRun answerOf m (before ++ later))) (turns-same m before)
+    (subst (Kept y (run answerOf m (turns m before))) (ap (run answerOf m) (sym (turns-append m before later)) ∙ turns-same m (before ++ later))
+    (a y m (turns m before) (turns (wholeRun answerOf m before) later) bytes idle))
 
 -- both, of the tag
-pub demand-3-whole : WholeWords
+pub demand-3-whole : WholeWords answerOf
 demand-3-whole = whole-words demand-3
 
-pub any-whole-run : WholeRuns
+pub any-whole-run : WholeRuns answerOf
 any-whole-run = whole-runs any-run

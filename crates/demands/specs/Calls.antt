@@ -38,8 +38,16 @@ pub record Tag : Type 0 where
   pub session : Session
   pub image : List ℕ
 
--- what each operation's promise has on its right side
-abbrev pub answerOf : Tag → Call → Result
+-- a program: what it answers to a call of a tag
+abbrev pub Program : Type 0
+Program = Tag → Call → Result
+
+-- its answer to a call with this session and image
+abbrev pub asked : Program → Session → List ℕ → Call → Result
+asked A s m c = A (record { session = s; image = m }) c
+
+-- what each operation's promise has on its right side: the tag's own answers
+abbrev pub answerOf : Program
 answerOf t (powerUp s) = powerUpOf (t .image) s
 answerOf t (admit n) = admitOf (t .session) n
 answerOf t (frame f bits fresh room s) = frameOf (input (t .session) (t .image) f bits fresh room s)
@@ -49,9 +57,9 @@ answerOf t register = registerOf (t .session)
 answerOf t (read at count room) = readOf (t .session) (t .image) at count room
 answerOf t (write at d s) = writeOf (t .session) (t .image) at d s
 
--- an operation's outcome, image and room meet its promise
-abbrev pub Meets : Tag → Call → Outcome → List ℕ → List ℕ → Type 0
-Meets t c o image room = result o image room ≡ answerOf t c
+-- an operation's outcome, image and room are what the program answers; of the tag's own answers, they meet its promise
+abbrev pub Meets : Program → Tag → Call → Outcome → List ℕ → List ℕ → Type 0
+Meets A t c o image room = result o image room ≡ A t c
 
 -- what a call was handed: the session (power-up asks for none), the image and the room ([] where it has none) and s (0 where it stores nothing)
 abbrev pub sessionIn : Tag → Call → Session
@@ -119,15 +127,15 @@ codeIn t (read at count room) = code.Nothing
 codeIn t (write at d s) = code.Nothing
 
 -- the image after a call: it stays where the call has none
-abbrev pub imageAfter : Tag → Call → List ℕ
-imageAfter t (powerUp s) = answerOf t (powerUp s) .image
-imageAfter t (admit n) = t .image
-imageAfter t (frame f bits fresh room s) = answerOf t (frame f bits fresh room s) .image
-imageAfter t ask = t .image
-imageAfter t release = t .image
-imageAfter t register = t .image
-imageAfter t (read at count room) = answerOf t (read at count room) .image
-imageAfter t (write at d s) = answerOf t (write at d s) .image
+abbrev pub imageAfter : Program → Tag → Call → List ℕ
+imageAfter A t (powerUp s) = A t (powerUp s) .image
+imageAfter A t (admit n) = t .image
+imageAfter A t (frame f bits fresh room s) = A t (frame f bits fresh room s) .image
+imageAfter A t ask = t .image
+imageAfter A t release = t .image
+imageAfter A t register = t .image
+imageAfter A t (read at count room) = A t (read at count room) .image
+imageAfter A t (write at d s) = A t (write at d s) .image
 
 -- a call with power for one store more
 abbrev pub more : Call → Call
@@ -141,8 +149,8 @@ more (read at count room) = read at count room
 more (write at d s) = write at d (suc s)
 
 -- the image after a call whose power fails in the middle of a store: as it is, but byte j as with power for one store more
-abbrev pub torn : Tag → Call → ℕ → List ℕ
-torn t c j = withByte j (imageAfter t (more c)) (imageAfter t c)
+abbrev pub torn : Program → Tag → Call → ℕ → List ℕ
+torn A t c j = withByte j (imageAfter A t (more c)) (imageAfter A t c)
 
 -- any run of calls, each with whatever session: cuts are calls whose power does not last, and of the next store one byte may be made
 pub record Turn : Type 0 where
@@ -150,9 +158,9 @@ pub record Turn : Type 0 where
   pub call : Call
   pub byte : ℕ
 
-abbrev pub run : List ℕ → List Turn → List ℕ
-run m [] = m
-run m (c ∷ cs) = run (torn (record { session = c .session; image = m }) (c .call) (c .byte)) cs
+abbrev pub run : Program → List ℕ → List Turn → List ℕ
+run A m [] = m
+run A m (c ∷ cs) = run A (torn A (record { session = c .session; image = m }) (c .call) (c .byte)) cs
 
 -- a good image of the layout y with nothing pending
 pub record Idle (y : Layout) (m : List ℕ) : Type 0 where

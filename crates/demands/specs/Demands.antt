@@ -1,4 +1,5 @@
--- What the buyer asked for (RULES D1 to D3), as statements. Their proofs: `demand-1`, `demand-2`, `demand-3` and `any-run` in proofs/. Assumes nothing.
+-- What the buyer asked for (RULES D1 to D3), as statements of any program A. Their proofs of the tag: `demand-1`, `demand-2`, `demand-3` and `any-run` in proofs/.
+-- Assumes nothing.
 use Prim.Native.Nat.{ℕ, _+_, _*_, _/_, _≤_, _<_}
 use mathlib.Core.Path.{_≡_}
 use mathlib.Core.Bool.{Bool, true, _||_}
@@ -23,8 +24,7 @@ use Rattle.tag.specs.Session.{offSession}
 use Rattle.tag.specs.Result.{Result, leaves}
 use Rattle.tag.specs.Commands.{linkOf, used}
 use Rattle.tag.specs.Table.{liveOf, replyOr, movedTo}
-use Rattle.tag.specs.Power.{powerUpOf}
-use Rattle.demands.specs.Calls.{Call, powerUp, frame, write, Tag, answerOf, Meets, sessionIn, imageIn, roomIn, powerIn, storesIn, codeIn, imageAfter, torn, Turn, run, Idle}
+use Rattle.demands.specs.Calls.{Call, powerUp, frame, write, Tag, Program, asked, Meets, sessionIn, imageIn, roomIn, powerIn, storesIn, codeIn, imageAfter, torn, Turn, run, Idle}
 
 -- DEMAND 1. Every image, frame and SPI transaction that can be handed over gets one answer of the table; a refusal leaves what the table says.
 
@@ -51,10 +51,10 @@ pub record Tabled (t : Tag) (c : Call) (r : Result) : Type 0 where
   pub dropped : r .number ≡ 12 → r ≡ leaves 12 (movedTo (liveOf (t .session .power)) state.Arbitrate) (imageIn t c) (roomIn c)
   pub silent : r .reply ≡ 0 → r .room ≡ roomIn c
 
-pub record Demand1 : Type 0 where
+pub record Demand1 (A : Program) : Type 0 where
   pub check : (m : List ℕ) (p q : Fit) → meaning p ≡ checkOf m → meaning q ≡ checkOf m → p ≡ q
-  pub one : (t : Tag) (c : Call) (p q : Outcome) (m n a b : List ℕ) → Meets t c p m a → Meets t c q n b → (p ≡ q) × (m ≡ n) × (a ≡ b)
-  pub table : (t : Tag) (c : Call) → Tabled t c (answerOf t c)
+  pub one : (t : Tag) (c : Call) (p q : Outcome) (m n a b : List ℕ) → Meets A t c p m a → Meets A t c q n b → (p ≡ q) × (m ≡ n) × (a ≡ b)
+  pub table : (t : Tag) (c : Call) → Tabled t c (A t c)
 
 -- DEMAND 2 stands in `Commands`: command by command.
 
@@ -73,34 +73,37 @@ told (byRadio f bits fresh room) s = frame f bits fresh room s
 told (byPort at d) s = write at d s
 
 -- from a good image with nothing pending, c stores n words where the power lasts for `enough`; what is lent as an image consists of bytes
-pub record Stores (y : Layout) (t : Tag) (c : Storing) (n enough : ℕ) : Type 0 where
+pub record Stores (A : Program) (y : Layout) (t : Tag) (c : Storing) (n enough : ℕ) : Type 0 where
   pub bytes : Bytes (t .image)
   pub idle : Idle y (t .image)
   pub some : 1 ≤ n
-  pub done : answerOf t (told c enough) .number ≡ 0
-  pub stores : answerOf t (told c enough) .stores ≡ 3 * n + 2
+  pub done : A t (told c enough) .number ≡ 0
+  pub stores : A t (told c enough) .stores ≡ 3 * n + 2
 
--- the image after power-ups, each cut
-abbrev pub powerUps : List Cut → List ℕ → List ℕ
-powerUps [] m = m
-powerUps (f ∷ fs) m = powerUps fs (torn (record { session = offSession; image = m }) (powerUp (f .whole)) (f .byte))
+-- a power-up of the image m with power for s stores; the image after power-ups, each cut
+abbrev pub start : Program → List ℕ → ℕ → Result
+start A m s = asked A offSession m (powerUp s)
+
+abbrev pub powerUps : Program → List Cut → List ℕ → List ℕ
+powerUps A [] m = m
+powerUps A (f ∷ fs) m = powerUps A fs (torn A (record { session = offSession; image = m }) (powerUp (f .whole)) (f .byte))
 
 -- m after a whole power-up is n after one, outside WORK
-abbrev pub SameOnce : Layout → List ℕ → List ℕ → Type 0
-SameOnce y m n =
-    (j k : ℕ) → powerUpOf m j .number ≡ 0 → powerUpOf n k .number ≡ 0
-    → (i : ℕ) → i < y .work .at → wordAt (powerUpOf m j .image) i ≡ wordAt (powerUpOf n k .image) i
+abbrev pub SameOnce : Program → Layout → List ℕ → List ℕ → Type 0
+SameOnce A y m n =
+    (j k : ℕ) → start A m j .number ≡ 0 → start A n k .number ≡ 0
+    → (i : ℕ) → i < y .work .at → wordAt (start A m j .image) i ≡ wordAt (start A n k .image) i
 
 -- m, which is left where k stores count as made, comes to the old words or to the new ones; no power-up of it that lasts for 257 stores is refused or cut
-pub record Unbroken (y : Layout) (t : Tag) (c : Storing) (n enough k : ℕ) (m : List ℕ) : Type 0 where
-  pub old : k ≤ 2 * n → SameOnce y m (t .image)
-  pub new : 2 * n < k → SameOnce y m (answerOf t (told c enough) .image)
-  pub starts : (u : ℕ) → 257 ≤ u → powerUpOf m u .number ≡ 0
+pub record Unbroken (A : Program) (y : Layout) (t : Tag) (c : Storing) (n enough k : ℕ) (m : List ℕ) : Type 0 where
+  pub old : k ≤ 2 * n → SameOnce A y m (t .image)
+  pub new : 2 * n < k → SameOnce A y m (A t (told c enough) .image)
+  pub starts : (u : ℕ) → 257 ≤ u → start A m u .number ≡ 0
 
-abbrev pub Demand3 : Type 0
-Demand3 =
-    (y : Layout) (t : Tag) (c : Storing) (n enough : ℕ) → Stores y t c n enough
-    → (f : Cut) (fs : List Cut) → Unbroken y t c n enough (reaches y f) (powerUps fs (torn t (told c (f .whole)) (f .byte)))
+abbrev pub Demand3 : Program → Type 0
+Demand3 A =
+    (y : Layout) (t : Tag) (c : Storing) (n enough : ℕ) → Stores A y t c n enough
+    → (f : Cut) (fs : List Cut) → Unbroken A y t c n enough (reaches y f) (powerUps A fs (torn A t (told c (f .whole)) (f .byte)))
 
 -- So, through any run of commands, SPI transfers, admissions, cuts and power-ups from such an image, with any inputs and any sessions: from any point of
 -- the run to any later one the image stays good, header and TID stay, no permalock is taken off, the pwd bit of a permalocked pair stays, and no USER word of a
@@ -114,25 +117,26 @@ pub record Kept (y : Layout) (m n : List ℕ) : Type 0 where
   pub blocks : (b : ℕ) → b < blocksIn y → permalock y m b ≡ 1 → permalock y n b ≡ 1
   pub words : (i : ℕ) → i < y .user .words → permalock y m (i / y .block) ≡ 1 → wordAt n (y .user .at + i) ≡ wordAt m (y .user .at + i)
 
-abbrev pub AnyRun : Type 0
-AnyRun = (y : Layout) (m : List ℕ) (before later : List Turn) → Bytes m → Idle y m → Kept y (run m before) (run m (before ++ later))
+abbrev pub AnyRun : Program → Type 0
+AnyRun A = (y : Layout) (m : List ℕ) (before later : List Turn) → Bytes m → Idle y m → Kept y (run A m before) (run A m (before ++ later))
 
 -- The buyer's own words, "a word store is whole or absent", are the case where no word is torn: `whole-words` and `whole-runs` in proofs/Whole derive it.
 
 -- the image after power-ups with power for ks stores, and after a run of calls
-abbrev pub wholePowerUps : List ℕ → List ℕ → List ℕ
-wholePowerUps [] m = m
-wholePowerUps (k ∷ ks) m = wholePowerUps ks (powerUpOf m k .image)
+abbrev pub wholePowerUps : Program → List ℕ → List ℕ → List ℕ
+wholePowerUps A [] m = m
+wholePowerUps A (k ∷ ks) m = wholePowerUps A ks (start A m k .image)
 
-abbrev pub wholeRun : List ℕ → List (Session × Call) → List ℕ
-wholeRun m [] = m
-wholeRun m (c ∷ cs) = wholeRun (imageAfter (record { session = c .0; image = m }) (c .1)) cs
+abbrev pub wholeRun : Program → List ℕ → List (Session × Call) → List ℕ
+wholeRun A m [] = m
+wholeRun A m (c ∷ cs) = wholeRun A (imageAfter A (record { session = c .0; image = m }) (c .1)) cs
 
-abbrev pub WholeWords : Type 0
-WholeWords =
-    (y : Layout) (t : Tag) (c : Storing) (n enough : ℕ) → Stores y t c n enough
-    → (s : ℕ) (ks : List ℕ) → let r = answerOf t (told c s) in Unbroken y t c n enough (r .stores) (wholePowerUps ks (r .image))
+abbrev pub WholeWords : Program → Type 0
+WholeWords A =
+    (y : Layout) (t : Tag) (c : Storing) (n enough : ℕ) → Stores A y t c n enough
+    → (s : ℕ) (ks : List ℕ) → let r = A t (told c s) in Unbroken A y t c n enough (r .stores) (wholePowerUps A ks (r .image))
 
-abbrev pub WholeRuns : Type 0
-WholeRuns =
-    (y : Layout) (m : List ℕ) (before later : List (Session × Call)) → Bytes m → Idle y m → Kept y (wholeRun m before) (wholeRun m (before ++ later))
+abbrev pub WholeRuns : Program → Type 0
+WholeRuns A =
+    (y : Layout) (m : List ℕ) (before later : List (Session × Call)) → Bytes m → Idle y m
+    → Kept y (wholeRun A m before) (wholeRun A m (before ++ later))

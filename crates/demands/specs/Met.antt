@@ -91,7 +91,7 @@ holder = record { session = holding state.Arbitrate false false; image = worked 
 
 pub record Met : Type 0 where
   -- demand 1: an outcome that meets the promise
-  pub one : Meets tag (frame write3 66 0x1234 (replicate 12 0xAA) 5) outcome (answerOf tag (told p7 5) .image) (answerOf tag (told p7 5) .room)
+  pub one : Meets answerOf tag (frame write3 66 0x1234 (replicate 12 0xAA) 5) outcome (answerOf tag (told p7 5) .image) (answerOf tag (told p7 5) .room)
   -- all demands: a good image with nothing pending
   pub idle : Idle workedLayout worked
   -- demand 2: a frame for each command, and no code that applies
@@ -118,9 +118,9 @@ pub record Met : Type 0 where
   pub nak : heardOf (0xC0 ∷ []) 8 ≡ heard.Nak
   pub engine : (2 + 4 ≤ workedLayout .user .words) × (length fourWords ≡ 8)
   -- demand 3: a Write of one word and an SPI write of four, done; the power-ups after their cuts, whole
-  pub radio-done : Stores workedLayout tag p7 1 5
+  pub radio-done : Stores answerOf workedLayout tag p7 1 5
   pub radio-whole : (powerUpOf (answerOf tag (told p7 2) .image) 257 .number ≡ 0) × (powerUpOf (answerOf tag (told p7 3) .image) 257 .number ≡ 0)
-  pub port-done : Stores workedLayout holder (byPort 2 fourWords) 4 14
+  pub port-done : Stores answerOf workedLayout holder (byPort 2 fourWords) 4 14
   pub port-whole : powerUpOf (answerOf holder (told (byPort 2 fourWords) 9) .image) 257 .number ≡ 0
   -- any run: an image with a permalocked block
   pub locked-block : Bytes locked × Idle workedLayout locked × (permalock workedLayout locked 0 ≡ 1)

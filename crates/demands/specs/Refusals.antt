@@ -1,5 +1,5 @@
--- WHEN a frame is refused (RULES 5.1 to 5.10 and 5.12), line by line in the rules' own terms: of any program A. Each line stands under the ones before it: an
--- image that is good with nothing pending, a free port, a frame that says an order with its CRC-16 right, a state that hears it. Assumes nothing.
+-- WHEN a call is refused (RULES 5), line by line in the rules' own terms: of any program A. Each line stands under the ones before it: an image that is good
+-- with nothing pending, a port that is free or held as the call needs it, a frame that says an order with its CRC-16 right, a state that hears it. Assumes nothing.
 use Prim.Native.Nat.{ℕ, _+_, _-_, _*_, _%_, _≤_, _<_}
 use mathlib.Core.Path.{_≡_}
 use mathlib.Core.Logic.{_≢_, _⊎_}
@@ -33,16 +33,12 @@ use Rattle.tag.specs.declared.Session.{Session}
 use Rattle.tag.specs.Session.{offSession, on}
 use Rattle.tag.specs.Result.{Result, leaves}
 use Rattle.tag.specs.Commands.{accessWord, killWord}
-use Rattle.demands.specs.Calls.{Call, frame, Tag, Idle}
+use Rattle.demands.specs.Calls.{Call, powerUp, admit, frame, ask, release, register, read, write, Program, asked, Idle}
 use Rattle.demands.specs.Commands.{Air, linked, link, Says}
-
--- a program: what it answers to a call of a tag
-abbrev pub Program : Type 0
-Program = Tag → Call → Result
 
 -- its answer to the frame of a; with everything as before
 abbrev pub hears : Program → Air → Session → Result
-hears A a s = A (record { session = s; image = a .image }) (frame (a .frame) (a .bits) (a .fresh) (a .room) (a .power))
+hears A a s = asked A s (a .image) (frame (a .frame) (a .bits) (a .fresh) (a .room) (a .power))
 
 abbrev pub stays : ℕ → Air → Session → Result
 stays n a s = leaves n s (a .image) (a .room)
@@ -202,6 +198,40 @@ pub record Locks (A : Program) (y : Layout) (a : Air) (r : Register) (h : ℕ) (
       → pwdBit (lockWord y (a .image)) 4 ≡ 0 → permaBit (lockWord y (a .image)) 4 ≡ 1
       → hears A a (on (state.Secured (link h c half.Nothing)) false r) ≡ errs a r true h half.Nothing 0x04
 
+-- calls without an image, of a tag with any: their order starts at 5
+pub record Alone (A : Program) (m : List ℕ) : Type 0 where
+  pub admit-off : (n : ℕ) → asked A offSession m (admit n) ≡ leaves 5 offSession [] []
+  pub admit-held : (st : State) (r : Register) (n : ℕ) → asked A (on st true r) m (admit n) ≡ leaves 6 (on st true r) [] []
+  pub admit-state : (st : State) (r : Register) (n : ℕ) → st ≢ state.Arbitrate → asked A (on st false r) m (admit n) ≡ leaves 9 (on st false r) [] []
+  pub ask-off : asked A offSession m ask ≡ leaves 5 offSession [] []
+  pub ask-held : (st : State) (r : Register) → asked A (on st true r) m ask ≡ leaves 6 (on st true r) [] []
+  pub ask-linked : (q : Bool) (h : ℕ) (c : Cover) (p : Half) (r : Register)
+      → asked A (on (linked q (link h c p)) false r) m ask ≡ leaves 6 (on (linked q (link h c p)) false r) [] []
+  pub release-off : asked A offSession m release ≡ leaves 5 offSession [] []
+  pub release-free : (st : State) (r : Register) → asked A (on st false r) m release ≡ leaves 6 (on st false r) [] []
+  pub register-off : asked A offSession m register ≡ leaves 5 offSession [] []
+  pub register-free : (st : State) (r : Register) → asked A (on st false r) m register ≡ leaves 6 (on st false r) [] []
+
+-- an SPI transfer c, with the room that it has: 1, 2, 3, 5 and 6
+pub record Transfer (A : Program) (m : List ℕ) (c : Call) (room : List ℕ) : Type 0 where
+  pub bad-image : (s : Session) (n : ℕ) → checkOf m ≡ refused n → asked A s m c ≡ leaves n s m room
+  pub off : (y : Layout) → checkOf m ≡ good y → asked A offSession m c ≡ leaves 5 offSession m room
+  pub pends : (y : Layout) (s : Session) → checkOf m ≡ good y → countIn y m ≢ 0 → asked A s m c ≡ leaves 5 s m room
+  pub free : (y : Layout) (st : State) (r : Register) → Idle y m → asked A (on st false r) m c ≡ leaves 6 (on st false r) m room
+
+-- 13: no word, more than 255, or words past USER's end
+abbrev pub BadCount : Layout → ℕ → ℕ → Type 0
+BadCount y at n = (n ≡ 0) ⊎ (255 < n) ⊎ (y .user .words < at + n)
+
+-- 13 and 4 of a read, 13 of a write, where the port is held
+pub record Port (A : Program) (y : Layout) (m : List ℕ) (st : State) (r : Register) : Type 0 where
+  pub read-count : (at n : ℕ) (room : List ℕ) → BadCount y at n → asked A (on st true r) m (read at n room) ≡ leaves 13 (on st true r) m room
+  pub read-room : (at n : ℕ) (room : List ℕ) → 1 ≤ n → n ≤ 255 → at + n ≤ y .user .words → length room < 2 * n
+      → asked A (on st true r) m (read at n room) ≡ leaves 4 (on st true r) m room
+  pub write-odd : (at : ℕ) (d : List ℕ) (s : ℕ) → length d % 2 ≢ 0 → asked A (on st true r) m (write at d s) ≡ leaves 13 (on st true r) m []
+  pub write-count : (at n : ℕ) (d : List ℕ) (s : ℕ) → length d ≡ 2 * n → BadCount y at n ⊎ (pairsIn y < n)
+      → asked A (on st true r) m (write at d s) ≡ leaves 13 (on st true r) m []
+
 pub record Refusals (A : Program) : Type 0 where
   pub unready : (a : Air) → Unready A a
   pub unheard : (y : Layout) (a : Air) (st : State) (r : Register) → Idle y (a .image) → Unheard A a st r
@@ -209,3 +239,8 @@ pub record Refusals (A : Program) : Type 0 where
   pub dropped : (y : Layout) (a : Air) (r : Register) → Idle y (a .image) → Dropped A y a r
   pub errors : (y : Layout) (a : Air) (r : Register) (q : Bool) (h : ℕ) (c : Cover) → Idle y (a .image) → 6 ≤ length (a .room) → Errors A y a r q h c
   pub locks : (y : Layout) (a : Air) (r : Register) (h : ℕ) (c : Cover) → Idle y (a .image) → 6 ≤ length (a .room) → Locks A y a r h c
+  pub power-up : (m : List ℕ) (s : Session) (n u : ℕ) → checkOf m ≡ refused n → asked A s m (powerUp u) ≡ leaves n offSession m []
+  pub alone : (m : List ℕ) → Alone A m
+  pub reads : (m : List ℕ) (at n : ℕ) (room : List ℕ) → Transfer A m (read at n room) room
+  pub writes : (m : List ℕ) (at : ℕ) (d : List ℕ) (s : ℕ) → Transfer A m (write at d s) []
+  pub port : (y : Layout) (m : List ℕ) (st : State) (r : Register) → Idle y m → Port A y m st r

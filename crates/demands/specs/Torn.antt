@@ -42,10 +42,10 @@ none = 156
 
 -- after the write cut so; after a power-up, cut so, of an image
 abbrev written : ℕ → ℕ → List ℕ
-written k j = torn tag (told p7 k) j
+written k j = torn answerOf tag (told p7 k) j
 
 abbrev powered : ℕ → ℕ → List ℕ → List ℕ
-powered k j m = powerUps (cut k j ∷ []) m
+powered k j m = powerUps answerOf (cut k j ∷ []) m
 
 -- the images on the way: the pair's two words, the second whole or not; the count; word 31, whole or not; the count 0
 abbrev one : List ℕ
@@ -132,7 +132,7 @@ four =
     }
 
 -- equal after a whole power-up: not where word 31 is another
-apart : (m n : List ℕ) (v w : ℕ) → Comes m v → Comes n w → SameOnce workedLayout m n → v ≡ w
+apart : (m n : List ℕ) (v w : ℕ) → Comes m v → Comes n w → SameOnce answerOf workedLayout m n → v ≡ w
 apart m n v w p q h = sym (p .shows) ∙ h 257 257 (p .starts) (q .starts) 31 (lit< tt) ∙ q .shows
 
 count-images : (written 2 90 ≡ two 0xABCD) × (written 2 91 ≡ announced) × (answerOf tag (told p7 5) .image ≡ finished)
@@ -140,18 +140,18 @@ unfolding frameOf layoutOf headerGood blocksIn contentGood rulesHold worked word
 count-images = (refl, refl, refl)
 
 -- wrong: the whole stores alone decide, so that at most 2n of them come to the old words
-pub whole-alone : ((f : Cut) → f .whole ≤ 2 → SameOnce workedLayout (torn tag (told p7 (f .whole)) (f .byte)) worked) → ⊥
+pub whole-alone : ((f : Cut) → f .whole ≤ 2 → SameOnce answerOf workedLayout (torn answerOf tag (told p7 (f .whole)) (f .byte)) worked) → ⊥
 whole-alone h =
     let z : _≡_ {A = ℕ} 0xABCD 10 =
-    apart announced worked 0xABCD 10 (four .low) (four .before) (subst (λ (m : List ℕ). SameOnce workedLayout m worked) (count-images .1) (h (cut 2 91) (lit≤ tt))) in
+    apart announced worked 0xABCD 10 (four .low) (four .before) (subst (λ (m : List ℕ). SameOnce answerOf workedLayout m worked) (count-images .1) (h (cut 2 91) (lit≤ tt))) in
     omega arith
 
 -- wrong: the count's high byte decides
 pub high-decides : ((f : Cut) → 2 < f .whole + cond (eqb (f .byte) (2 * 45)) 1 0
-    → SameOnce workedLayout (torn tag (told p7 (f .whole)) (f .byte)) (answerOf tag (told p7 5) .image)) → ⊥
+    → SameOnce answerOf workedLayout (torn answerOf tag (told p7 (f .whole)) (f .byte)) (answerOf tag (told p7 5) .image)) → ⊥
 high-decides h =
     let z : _≡_ {A = ℕ} 10 0xABCD =
     apart (two 0xABCD) finished 10 0xABCD (four .high) (four .done)
-    (subst (SameOnce workedLayout (two 0xABCD)) (count-images .2)
-    (subst (λ (m : List ℕ). SameOnce workedLayout m (answerOf tag (told p7 5) .image)) (count-images .0) (h (cut 2 90) (lit< tt)))) in
+    (subst (SameOnce answerOf workedLayout (two 0xABCD)) (count-images .2)
+    (subst (λ (m : List ℕ). SameOnce answerOf workedLayout m (answerOf tag (told p7 5) .image)) (count-images .0) (h (cut 2 90) (lit< tt)))) in
     omega arith
