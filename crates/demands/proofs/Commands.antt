@@ -39,8 +39,8 @@ use Rattle.tag.specs.Result.{Result, leaves}
 use Rattle.tag.specs.Commands.{asksOf, linkOf, isSecured, isCovered, isKilled, wrong, wrongCommand, killWord, accessWord, breaks, codeOf, used, stateAfter, replyAfter, wordsAfter}
 use Rattle.tag.specs.Table.{Input, input, said, malformed, checksumWrong, broken, errorCode, newState, doneReply, doneWords, isError, replyOr, replyOf, storesOf, fits, replied, rows, frameOf, admitOf}
 use Rattle.tag.specs.Port.{badCount, badData, refusals, transferred, withKilled, withUnwritten, someUnwritten, writtenWords, readBits, portWords, askOf, releaseOf, registerOf, readOf, writeOf}
-use Rattle.demands.specs.Calls.{Idle}
-use Rattle.demands.specs.Commands.{Air, linked, link, done, answer, Does, Radio, Engine, Demand2}
+use Rattle.demands.specs.Calls.{answerOf, Idle}
+use Rattle.demands.specs.Commands.{Air, hears, linked, link, done, Does, Radio, Engine, Demand2}
 use Rattle.demands.proofs.Rows.{Rows, None, none-first}
 use Rattle.demands.proofs.Cuts.{started-so}
 
@@ -122,7 +122,7 @@ module _ (a : Air) (st : State) (r : Register) (idle : Idle (layoutOf (a .image)
           ),
         )
 
-    last-row : answer a st r ≡ given (doneReply handed x) (newState handed x) (doneWords handed x)
+    last-row : hears answerOf a (on st false r) ≡ given (doneReply handed x) (newState handed x) (doneWords handed x)
     unfolding frameOf handed given
     last-row =
         none-first (rows handed) (replied handed 0 (newState handed (said handed)) (storesOf handed)) none
@@ -134,7 +134,7 @@ module _ (a : Air) (r : Register) (idle : Idle (layoutOf (a .image)) (a .image))
   order-done : (st : State) (n : ℕ) (o : Order) → wrongCommand st (record { number = n; order = o }) ≡ false
       → breaks (layoutOf (a .image)) (a .image) (linkOf st) (linkOf st .half) (asksOf o .part) ≡ false
       → codeOf (layoutOf (a .image)) (a .image) (isSecured st) (linkOf st) (a .frame) o ≡ code.Nothing
-      → Does (layoutOf (a .image)) a r n o st (stateAfter (layoutOf (a .image)) (a .image) (a .fresh) st o)
+      → Does answerOf (layoutOf (a .image)) a r n o st (stateAfter (layoutOf (a .image)) (a .image) (a .fresh) st o)
       (replyAfter (layoutOf (a .image)) (a .fresh) (linkOf st) o) (wordsAfter (layoutOf (a .image)) (a .image) (linkOf st) (a .frame) o)
   unfolding handed given
   order-done st n o w b e says enough =
@@ -143,14 +143,14 @@ module _ (a : Air) (r : Register) (idle : Idle (layoutOf (a .image)) (a .image))
   -- in Open and Secured alike
   linked-done : (q : Bool) (k : Link) (o : Order) → asksOf o .secured ≡ false → asksOf o .cover && not (isCovered (k .cover)) ≡ false → asksOf o .bad ≡ false
       → breaks (layoutOf (a .image)) (a .image) k (k .half) (asksOf o .part) ≡ false → codeOf (layoutOf (a .image)) (a .image) q k (a .frame) o ≡ code.Nothing
-      → Does (layoutOf (a .image)) a r (k .handle) o (linked q k) (stateAfter (layoutOf (a .image)) (a .image) (a .fresh) (linked q k) o)
+      → Does answerOf (layoutOf (a .image)) a r (k .handle) o (linked q k) (stateAfter (layoutOf (a .image)) (a .image) (a .fresh) (linked q k) o)
       (replyAfter (layoutOf (a .image)) (a .fresh) k o) (wordsAfter (layoutOf (a .image)) (a .image) k (a .frame) o)
   linked-done true k o s c d b e = order-done (state.Secured k) (k .handle) o (rw (eq-eqb (k .handle) (k .handle) refl, c, d)) b e
   linked-done false k o s c d b e = order-done (state.Open k) (k .handle) o (rw (s, eq-eqb (k .handle) (k .handle) refl, c, d)) b e
 
   secured-done : (k : Link) (o : Order) → asksOf o .cover && not (isCovered (k .cover)) ≡ false → asksOf o .bad ≡ false
       → breaks (layoutOf (a .image)) (a .image) k (k .half) (asksOf o .part) ≡ false → codeOf (layoutOf (a .image)) (a .image) true k (a .frame) o ≡ code.Nothing
-      → Does (layoutOf (a .image)) a r (k .handle) o (state.Secured k) (stateAfter (layoutOf (a .image)) (a .image) (a .fresh) (state.Secured k) o)
+      → Does answerOf (layoutOf (a .image)) a r (k .handle) o (state.Secured k) (stateAfter (layoutOf (a .image)) (a .image) (a .fresh) (state.Secured k) o)
       (replyAfter (layoutOf (a .image)) (a .fresh) k o) (wordsAfter (layoutOf (a .image)) (a .image) k (a .frame) o)
   secured-done k o c d b e = order-done (state.Secured k) (k .handle) o (rw (eq-eqb (k .handle) (k .handle) refl, c, d)) b e
 
@@ -195,19 +195,19 @@ module _ (a : Air) (r : Register) (idle : Idle (layoutOf (a .image)) (a .image))
   linked-to : (q : Bool) (k : Link) (o : Order) (v : State) → stateAfter (layoutOf (a .image)) (a .image) (a .fresh) (linked q k) o ≡ v
       → asksOf o .secured ≡ false → asksOf o .cover && not (isCovered (k .cover)) ≡ false → asksOf o .bad ≡ false
       → breaks (layoutOf (a .image)) (a .image) k (k .half) (asksOf o .part) ≡ false → codeOf (layoutOf (a .image)) (a .image) q k (a .frame) o ≡ code.Nothing
-      → Does (layoutOf (a .image)) a r (k .handle) o (linked q k) v (replyAfter (layoutOf (a .image)) (a .fresh) k o) (wordsAfter (layoutOf (a .image)) (a .image) k (a .frame) o)
+      → Does answerOf (layoutOf (a .image)) a r (k .handle) o (linked q k) v (replyAfter (layoutOf (a .image)) (a .fresh) k o) (wordsAfter (layoutOf (a .image)) (a .image) k (a .frame) o)
   linked-to q k o v u s c d b e says enough =
       linked-done q k o s c d b e says enough
       ∙ ap (λ (w : State). done (layoutOf (a .image)) a r w (replyAfter (layoutOf (a .image)) (a .fresh) k o) (wordsAfter (layoutOf (a .image)) (a .image) k (a .frame) o)) u
 
-  nak-done : (st : State) → isKilled st ≡ false → heardOf (a .frame) (a .bits) ≡ heard.Nak → answer a st r ≡ done (layoutOf (a .image)) a r state.Arbitrate reply.Silence []
+  nak-done : (st : State) → isKilled st ≡ false → heardOf (a .frame) (a .bits) ≡ heard.Nak → hears answerOf a (on st false r) ≡ done (layoutOf (a .image)) a r state.Arbitrate reply.Silence []
   unfolding handed given
   nak-done st k e = last-row a st r idle heard.Nak e refl refl k refl refl (omega arith) (omega arith)
 
   some : (n : ℕ) → 1 ≤ n → eqb n 0 ≡ false
   some n l = ne-eqb n 0 (λ e. omega arith)
 
-  radio : Radio (layoutOf (a .image)) a r
+  radio : Radio answerOf (layoutOf (a .image)) a r
   radio =
       record {
         req-rn = λ n. order-done (state.Acknowledged n) n order.ReqRn (rw (eq-eqb n n refl)) refl refl;
@@ -278,7 +278,7 @@ module _ (m : List ℕ) (st : State) (r : Register) (idle : Idle (layoutOf m) m)
         ∙ ap₂ (λ (t : Bool) (x : List Store). transferred 0 (on st true (cond t (withKilled r) (withUnwritten (someUnwritten y m at (length d / 2)) r))) 0 (length (changeStores (y .work .at) x)) (after m (changeStores (y .work .at) x)) []) e words
         ∙ ap (λ (x : ℕ). transferred 0 (on st true (cond k (withKilled r) (withUnwritten (someUnwritten y m at x) r))) 0 (length (changeStores (y .work .at) ws)) (after m (changeStores (y .work .at) ws)) []) half
 
-  engine : Engine (layoutOf m) m st r
+  engine : Engine answerOf (layoutOf m) m st r
   unfolding admitOf askOf releaseOf registerOf written
   engine =
       record {
@@ -294,16 +294,16 @@ module _ (m : List ℕ) (st : State) (r : Register) (idle : Idle (layoutOf m) m)
         write-killed = λ at d n s k size a b c few. engine-write at d n s size a b c few true [] k refl (omega arith);
       }
 
-pub demand-2 : Demand2
+pub demand-2 : Demand2 answerOf
 demand-2 = record { start = started-so; radio = radio-at; engine = engine-at }
   where
     layout : (y : Layout) (m : List ℕ) → Idle y m → y ≡ layoutOf m
     layout y m i = check-good m y (i .sound) .layout
 
-    radio-at : (y : Layout) (a : Air) (r : Register) → Idle y (a .image) → Radio y a r
+    radio-at : (y : Layout) (a : Air) (r : Register) → Idle y (a .image) → Radio answerOf y a r
     radio-at y a r i =
         let e = layout y (a .image) i in
-        subst (λ (z : Layout). Radio z a r) (sym e) (radio a r (subst (λ (z : Layout). Idle z (a .image)) e i))
+        subst (λ (z : Layout). Radio answerOf z a r) (sym e) (radio a r (subst (λ (z : Layout). Idle z (a .image)) e i))
 
-    engine-at : (y : Layout) (m : List ℕ) (st : State) (r : Register) → Idle y m → Engine y m st r
-    engine-at y m st r i = let e = layout y m i in subst (λ (z : Layout). Engine z m st r) (sym e) (engine m st r (subst (λ (z : Layout). Idle z m) e i))
+    engine-at : (y : Layout) (m : List ℕ) (st : State) (r : Register) → Idle y m → Engine answerOf y m st r
+    engine-at y m st r i = let e = layout y m i in subst (λ (z : Layout). Engine answerOf z m st r) (sym e) (engine m st r (subst (λ (z : Layout). Idle z m) e i))

@@ -177,8 +177,8 @@ demand-3 y t c n enough h f fs = go (acts y t c enough (check-good (t .image) y 
     go (inr a) = unbroken y t c n enough h (wordsOf t c) a f fs
 
 -- a whole power-up, for any good image
-pub started-so : (y : Layout) (m : List ℕ) → checkOf m ≡ good y → Start y m (after m (powerStores y m))
-started-so y m e = subst (λ (z : Layout). Start z m (after m (powerStores z m))) (sym (k .layout)) here
+pub started-so : (y : Layout) (m : List ℕ) → checkOf m ≡ good y → Start answerOf y m (after m (powerStores y m))
+started-so y m e = subst (λ (z : Layout). Start answerOf z m (after m (powerStores z m))) (sym (k .layout)) here
   where
     k : Good y m
     k = check-good m y e
@@ -202,7 +202,7 @@ started-so y m e = subst (λ (z : Layout). Start z m (after m (powerStores z m))
         power-word (layoutOf m) m g (layoutOf m .epc .at) (omega (arith, g .header))
         ∙ ap (λ (b : Bool). cond b (epcCrc (layoutOf m) (after m (pending (layoutOf m) m))) (wordAt (after m (pending (layoutOf m) m)) (layoutOf m .epc .at))) (eq-eqb (layoutOf m .epc .at) (layoutOf m .epc .at) refl)
 
-    here : Start (layoutOf m) m n
+    here : Start answerOf (layoutOf m) m n
     here =
         record {
           up = λ s l. power-done (layoutOf m) m g s l;

@@ -48,11 +48,11 @@ use Rattle.tag.specs.Table.{Input, input, said, malformed, checksumWrong, broke
 use Rattle.tag.specs.Power.{started, powerUpOf}
 use Rattle.tag.specs.Port.{badCount, badData, refusals, transferred, registerTo, withKilled, withUnwritten, someUnwritten, readBits, portWords, askOf, releaseOf, registerOf, readOf, writeOf}
 use Rattle.demands.specs.Calls.{Call, asked, powerUp, ask, read, write, answerOf, Idle}
-use Rattle.demands.specs.Commands.{Air, linked, link, Says}
+use Rattle.demands.specs.Commands.{Air, hears, linked, link, Says}
 use Rattle.demands.proofs.Rows.{Rows}
 use Rattle.demands.proofs.Codes.{or-right, and-false}
 use Rattle.demands.proofs.Codes as codes
-use Rattle.demands.specs.Refusals.{hears, stays, drops, errs, Covered, Needs, Other, Brings, Wrong, Dropped, Errors, Locks, Alone, BadCount, Transfer, Port, Refusals}
+use Rattle.demands.specs.Refusals.{stays, drops, errs, Covered, Needs, Other, Brings, Wrong, Dropped, Errors, Locks, Alone, BadCount, Transfer, Port, Refusals}
 
 -- row k holds, and none before it
 abbrev Reaches : ℕ → Rows → Type 0

@@ -1,4 +1,4 @@
--- DEMAND 2, command by command: for a good image with nothing pending, a session that the command is for, room and power enough: the reply's bits,
+-- DEMAND 2 of any program A, command by command: for a good image with nothing pending, a session that the command is for, room and power enough: the reply's bits,
 -- the session and the words stored (RULES D2, 3.9 to 3.22 and 4). Its proof: `demand-2` in proofs/Commands. Assumes nothing.
 use Prim.Native.Nat.{ℕ, _+_, _-_, _*_, _≤_, _<_}
 use mathlib.Core.Path.{_≡_}
@@ -34,13 +34,15 @@ use Rattle.tag.specs.declared.Link.{Link}
 use Rattle.tag.specs.declared.Register.{Register}
 use Rattle.tag.specs.declared.State.{State}
 use Rattle.tag.specs.declared.State.the-variants as state
-use Rattle.tag.specs.Session.{on, clear}
+use Rattle.tag.specs.declared.Session.{Session}
+use Rattle.tag.specs.Session.{offSession, on, clear}
 use Rattle.tag.specs.Result.{Result, leaves}
 use Rattle.tag.specs.Commands.{accessWord, killWord, zeroKill, zeroAccess, isKilled}
-use Rattle.tag.specs.Power.{poweredTo, powerUpOf}
-use Rattle.tag.specs.Table.{input, frameOf, answered, admitOf}
-use Rattle.tag.specs.Port.{isLinked, numberIn, writtenWords, someUnwritten, transferred, askOf, releaseOf, registerOf, readOf, writeOf, withUnwritten, withKilled}
-use Rattle.demands.specs.Calls.{Idle}
+use Rattle.tag.specs.Power.{poweredTo}
+use Rattle.tag.specs.Table.{answered}
+use Rattle.tag.specs.Port.{isLinked, numberIn, writtenWords, someUnwritten, transferred, withUnwritten, withKilled}
+use Rattle.demands.specs.Calls.{powerUp, frame, Program, asked, Idle}
+use Rattle.demands.specs.Calls as call
 
 -- what a frame call is handed beside the session: image, frame, bit count, fresh word, room and power
 pub record Air : Type 0 where
@@ -72,8 +74,9 @@ done y a r st rp ws =
       room = packed (replyBits (a .image) rp) (a .room);
     }
 
-abbrev pub answer : Air → State → Register → Result
-answer a st r = frameOf (input (on st false r) (a .image) (a .frame) (a .bits) (a .fresh) (a .room) (a .power))
+-- what the program A answers to the frame of a
+abbrev pub hears : Program → Air → Session → Result
+hears A a s = asked A s (a .image) (frame (a .frame) (a .bits) (a .fresh) (a .room) (a .power))
 
 -- room and power enough for the reply and the words
 abbrev pub Enough : Layout → Air → Reply → List Store → Type 0
@@ -85,98 +88,98 @@ pub record Says (a : Air) (n : ℕ) (o : Order) : Type 0 where
   pub right : checksumRight (a .frame) (a .bits) ≡ true
 
 -- the order o with the number n, to a tag in the state st: it comes to the state, the reply and the words
-abbrev pub Does : Layout → Air → Register → ℕ → Order → State → State → Reply → List Store → Type 0
-Does y a r n o st st′ rp ws = Says a n o → Enough y a rp ws → answer a st r ≡ done y a r st′ rp ws
+abbrev pub Does : Program → Layout → Air → Register → ℕ → Order → State → State → Reply → List Store → Type 0
+Does A y a r n o st st′ rp ws = Says a n o → Enough y a rp ws → hears A a (on st false r) ≡ done y a r st′ rp ws
 
 -- n words of the frame from bit p on, for the words from o on
 abbrev pub wordsTo : ℕ → List ℕ → ℕ → ℕ → List Store
 wordsTo o f p n = below (λ j. store (o + j) (fieldAt f (p + 16 * j) 16)) n
 
-pub record Radio (y : Layout) (a : Air) (r : Register) : Type 0 where
+pub record Radio (A : Program) (y : Layout) (a : Air) (r : Register) : Type 0 where
   -- Req_RN with the admission number: the fresh word is the handle, the state Open if there is an access password, else Secured
   pub req-rn : (n : ℕ)
-      → Does y a r n order.ReqRn (state.Acknowledged n) (linked (zeroAccess y (a .image)) (link (a .fresh) cover.Nothing half.Nothing)) (reply.Number (a .fresh)) []
+      → Does A y a r n order.ReqRn (state.Acknowledged n) (linked (zeroAccess y (a .image)) (link (a .fresh) cover.Nothing half.Nothing)) (reply.Number (a .fresh)) []
   -- Req_RN with the handle: the fresh word is the cover number
   pub req-rn-cover : (q : Bool) (h : ℕ) (c : Cover) (p : Half)
-      → Does y a r h order.ReqRn (linked q (link h c p)) (linked q (link h (cover.Number (a .fresh)) p)) (reply.Number (a .fresh)) []
+      → Does A y a r h order.ReqRn (linked q (link h c p)) (linked q (link h (cover.Number (a .fresh)) p)) (reply.Number (a .fresh)) []
   -- Read: the words of the span, where no code applies
   pub read : (q : Bool) (h : ℕ) (c : Cover) (b p n : ℕ) → readCode y (a .image) q (span b p n) ≡ code.Nothing
-      → Does y a r h (order.Read (span b p n)) (linked q (link h c half.Nothing)) (linked q (link h cover.Nothing half.Nothing))
+      → Does A y a r h (order.Read (span b p n)) (linked q (link h c half.Nothing)) (linked q (link h cover.Nothing half.Nothing))
       (reply.Words (bankOf y b .at + p) (spanWords (bankOf y b) (span b p n)) h) []
   -- Write: the word without its cover, which is used up
   pub write : (q : Bool) (h c : ℕ) (b p w : ℕ) → writeCode y (a .image) q (span b p 1) (bitXor w c) ≡ code.Nothing
-      → Does y a r h (order.Write (span b p 1) w) (linked q (link h (cover.Number c) half.Nothing)) (linked q (link h cover.Nothing half.Nothing))
+      → Does A y a r h (order.Write (span b p 1) w) (linked q (link h (cover.Number c) half.Nothing)) (linked q (link h cover.Nothing half.Nothing))
       (reply.Success h) (store (bankOf y b .at + p) (bitXor w c) ∷ [])
   -- Kill, the first half: it waits, without its cover; there is a kill password
   pub kill-first : (q : Bool) (h c w : ℕ) → zeroKill y (a .image) ≡ false
-      → Does y a r h (order.Kill w) (linked q (link h (cover.Number c) half.Nothing)) (linked q (link h cover.Nothing (half.Kill (bitXor w c)))) (reply.Number h) []
+      → Does A y a r h (order.Kill w) (linked q (link h (cover.Number c) half.Nothing)) (linked q (link h cover.Nothing (half.Kill (bitXor w c)))) (reply.Number h) []
   -- Kill, the second: where both are the password's, killed is stored as 1
   pub kill-second : (q : Bool) (h c w up : ℕ) → up ≡ killWord y (a .image) 0 → bitXor w c ≡ killWord y (a .image) 1
-      → Does y a r h (order.Kill w) (linked q (link h (cover.Number c) (half.Kill up))) state.Killed (reply.Success h) (store (y .status .at + 1) 1 ∷ [])
+      → Does A y a r h (order.Kill w) (linked q (link h (cover.Number c) (half.Kill up))) state.Killed (reply.Success h) (store (y .status .at + 1) 1 ∷ [])
   -- Lock, in Secured: the masked bits of the lock word are the action's
   pub lock : (h : ℕ) (c : Cover) (mask action : ℕ) → lockCode y (a .image) mask action ≡ code.Nothing
-      → Does y a r h (order.Lock mask action) (state.Secured (link h c half.Nothing)) (state.Secured (link h cover.Nothing half.Nothing)) (reply.Success h)
+      → Does A y a r h (order.Lock mask action) (state.Secured (link h c half.Nothing)) (state.Secured (link h cover.Nothing half.Nothing)) (reply.Success h)
       (store (y .status .at) (lockedTo (lockWord y (a .image)) mask action) ∷ [])
   -- Access, the first half, and the second where both are the password's
   pub access-first : (q : Bool) (h c w : ℕ)
-      → Does y a r h (order.Access w) (linked q (link h (cover.Number c) half.Nothing)) (linked q (link h cover.Nothing (half.Access (bitXor w c)))) (reply.Number h) []
+      → Does A y a r h (order.Access w) (linked q (link h (cover.Number c) half.Nothing)) (linked q (link h cover.Nothing (half.Access (bitXor w c)))) (reply.Number h) []
   pub access-second : (q : Bool) (h c w up : ℕ) → up ≡ accessWord y (a .image) 0 → bitXor w c ≡ accessWord y (a .image) 1
-      → Does y a r h (order.Access w) (linked q (link h (cover.Number c) (half.Access up))) (state.Secured (link h cover.Nothing half.Nothing)) (reply.Number h) []
+      → Does A y a r h (order.Access w) (linked q (link h (cover.Number c) (half.Access up))) (state.Secured (link h cover.Nothing half.Nothing)) (reply.Number h) []
   -- BlockWrite: the words of the frame
   pub block-write : (q : Bool) (h : ℕ) (c : Cover) (b p n at : ℕ) → 1 ≤ n
       → writeCode y (a .image) q (span b p n) (fieldAt (a .frame) (at + 16 * (1 - p)) 16) ≡ code.Nothing
-      → Does y a r h (order.BlockWrite (span b p n) at) (linked q (link h c half.Nothing)) (linked q (link h cover.Nothing half.Nothing))
+      → Does A y a r h (order.BlockWrite (span b p n) at) (linked q (link h c half.Nothing)) (linked q (link h cover.Nothing half.Nothing))
       (reply.Success h) (wordsTo (bankOf y b .at + p) (a .frame) at n)
   -- BlockErase: zeros
   pub block-erase : (q : Bool) (h : ℕ) (c : Cover) (b p n : ℕ) → 1 ≤ n → writeCode y (a .image) q (span b p n) 0 ≡ code.Nothing
-      → Does y a r h (order.BlockErase (span b p n)) (linked q (link h c half.Nothing)) (linked q (link h cover.Nothing half.Nothing))
+      → Does A y a r h (order.BlockErase (span b p n)) (linked q (link h c half.Nothing)) (linked q (link h cover.Nothing half.Nothing))
       (reply.Success h) (below (λ j. store (bankOf y b .at + p + j) 0) n)
   -- BlockPermalock that reads: PERMA words
   pub permalock-read : (h : ℕ) (c : Cover) (b p n : ℕ) → 1 ≤ n → permaReadCode y (span b p n) ≡ code.Nothing
-      → Does y a r h (order.ReadPermalock 0 (span b p n)) (state.Secured (link h c half.Nothing)) (state.Secured (link h cover.Nothing half.Nothing))
+      → Does A y a r h (order.ReadPermalock 0 (span b p n)) (state.Secured (link h c half.Nothing)) (state.Secured (link h cover.Nothing half.Nothing))
       (reply.Words (y .perma .at + p) n h) []
   -- and one that locks: masked bits are added
   pub permalock : (h : ℕ) (c : Cover) (b p n at : ℕ) → 1 ≤ n → permaCode y (a .image) (span b p n) (a .frame) at ≡ code.Nothing
-      → Does y a r h (order.Permalock 0 (span b p n) at) (state.Secured (link h c half.Nothing)) (state.Secured (link h cover.Nothing half.Nothing))
+      → Does A y a r h (order.Permalock 0 (span b p n) at) (state.Secured (link h c half.Nothing)) (state.Secured (link h cover.Nothing half.Nothing))
       (reply.Success h)
       (below (λ j. let i = y .perma .at + p + j in store i (bitOr (wordAt (a .image) i) (fieldAt (a .frame) (at + 16 * j) 16))) n)
   -- NAK: Arbitrate, and no reply
-  pub nak : (st : State) → isKilled st ≡ false → heardOf (a .frame) (a .bits) ≡ heard.Nak → answer a st r ≡ done y a r state.Arbitrate reply.Silence []
+  pub nak : (st : State) → isKilled st ≡ false → heardOf (a .frame) (a .bits) ≡ heard.Nak → hears A a (on st false r) ≡ done y a r state.Arbitrate reply.Silence []
 
 -- the gate's admission, and the port with the image m
-pub record Engine (y : Layout) (m : List ℕ) (st : State) (r : Register) : Type 0 where
+pub record Engine (A : Program) (y : Layout) (m : List ℕ) (st : State) (r : Register) : Type 0 where
   -- Arbitrate, with the port free
-  pub admit : (n : ℕ) → admitOf (on state.Arbitrate false r) n ≡ answered 0 (on (state.Acknowledged n) false r)
-  pub ask : isLinked st ≡ false → askOf (on st false r) ≡ answered 0 (on st true r)
-  pub release : releaseOf (on st true r) ≡ answered 0 (on st false r)
+  pub admit : (n : ℕ) → asked A (on state.Arbitrate false r) m (call.admit n) ≡ answered 0 (on (state.Acknowledged n) false r)
+  pub ask : isLinked st ≡ false → asked A (on st false r) m call.ask ≡ answered 0 (on st true r)
+  pub release : asked A (on st true r) m call.release ≡ answered 0 (on st false r)
   -- the register as a number, and cleared
-  pub register : registerOf (on st true r)
+  pub register : asked A (on st true r) m call.register
       ≡ record { number = 0; session = on st true clear; reply = 0; stores = 0; value = numberIn r; image = []; room = [] }
   -- the words of USER, high byte first
   pub read : (at n : ℕ) (room : List ℕ) → isKilled st ≡ false → 1 ≤ n → n ≤ 255 → at + n ≤ y .user .words → 2 * n ≤ length room
-      → readOf (on st true r) m at n room ≡ transferred 0 (on st true r) (16 * n) 0 m (packed (wordsBits m (y .user .at + at) n) room)
+      → asked A (on st true r) m (call.read at n room) ≡ transferred 0 (on st true r) (16 * n) 0 m (packed (wordsBits m (y .user .at + at) n) room)
   -- the writable words, as one change; bit 1 where some word wasn't written
   pub write : (at : ℕ) (d : List ℕ) (n s : ℕ) → isKilled st ≡ false → length d ≡ 2 * n → 1 ≤ n → n ≤ 255 → at + n ≤ y .user .words → n ≤ pairsIn y
       → let stores = changeStores (y .work .at) (writtenWords y m at d n) in length stores ≤ s
-      → writeOf (on st true r) m at d s ≡ transferred 0 (on st true (withUnwritten (someUnwritten y m at n) r)) 0 (length stores) (after m stores) []
+      → asked A (on st true r) m (call.write at d s) ≡ transferred 0 (on st true (withUnwritten (someUnwritten y m at n) r)) 0 (length stores) (after m stores) []
   -- when Killed: zeros, and nothing stored; bit 0 is set
   pub read-killed : (at n : ℕ) (room : List ℕ) → isKilled st ≡ true → 1 ≤ n → n ≤ 255 → at + n ≤ y .user .words → 2 * n ≤ length room
-      → readOf (on st true r) m at n room ≡ transferred 0 (on st true (withKilled r)) (16 * n) 0 m (packed (replicate (16 * n) 0) room)
+      → asked A (on st true r) m (call.read at n room) ≡ transferred 0 (on st true (withKilled r)) (16 * n) 0 m (packed (replicate (16 * n) 0) room)
   pub write-killed : (at : ℕ) (d : List ℕ) (n s : ℕ) → isKilled st ≡ true → length d ≡ 2 * n → 1 ≤ n → n ≤ 255 → at + n ≤ y .user .words → n ≤ pairsIn y
-      → writeOf (on st true r) m at d s ≡ leaves 0 (on st true (withKilled r)) m []
+      → asked A (on st true r) m (call.write at d s) ≡ leaves 0 (on st true (withKilled r)) m []
 
 -- power-up of a good image, whatever is pending; n is the image afterwards
-pub record Start (y : Layout) (m n : List ℕ) : Type 0 where
+pub record Start (A : Program) (y : Layout) (m n : List ℕ) : Type 0 where
   -- with power enough, and 257 stores always are: Killed if the image says so, else Arbitrate; port free, register 0
   pub up : (s : ℕ) → length (powerStores y m) ≤ s
-      → powerUpOf m s ≡ poweredTo 0 (on (cond (eqb (killedWord y n) 0) state.Arbitrate state.Killed) false clear) (length (powerStores y m)) n
+      → asked A offSession m (powerUp s) ≡ poweredTo 0 (on (cond (eqb (killedWord y n) 0) state.Arbitrate state.Killed) false clear) (length (powerStores y m)) n
   pub enough : length (powerStores y m) ≤ 257
   -- the pending words are stored and nothing is pending; EPC word 0 is the CRC-16 over the PC and the L words after it
   pub words : (i : ℕ) → i < y .work .at → (i ≡ y .epc .at → ⊥) → wordAt n i ≡ wordAt (after m (pending y m)) i
   pub settled : countIn y n ≡ 0
   pub sum : wordAt n (y .epc .at) ≡ crcOf (wordsBits n (y .epc .at + 1) (lengthOf (pcWord y n) + 1))
 
-pub record Demand2 : Type 0 where
-  pub start : (y : Layout) (m : List ℕ) → checkOf m ≡ good y → Start y m (after m (powerStores y m))
-  pub radio : (y : Layout) (a : Air) (r : Register) → Idle y (a .image) → Radio y a r
-  pub engine : (y : Layout) (m : List ℕ) (st : State) (r : Register) → Idle y m → Engine y m st r
+pub record Demand2 (A : Program) : Type 0 where
+  pub start : (y : Layout) (m : List ℕ) → checkOf m ≡ good y → Start A y m (after m (powerStores y m))
+  pub radio : (y : Layout) (a : Air) (r : Register) → Idle y (a .image) → Radio A y a r
+  pub engine : (y : Layout) (m : List ℕ) (st : State) (r : Register) → Idle y m → Engine A y m st r

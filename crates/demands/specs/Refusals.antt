@@ -33,13 +33,10 @@ use Rattle.tag.specs.declared.Session.{Session}
 use Rattle.tag.specs.Session.{offSession, on}
 use Rattle.tag.specs.Result.{Result, leaves}
 use Rattle.tag.specs.Commands.{accessWord, killWord}
-use Rattle.demands.specs.Calls.{Call, powerUp, admit, frame, ask, release, register, read, write, Program, asked, Idle}
-use Rattle.demands.specs.Commands.{Air, linked, link, Says}
+use Rattle.demands.specs.Calls.{Call, powerUp, admit, ask, release, register, read, write, Program, asked, Idle}
+use Rattle.demands.specs.Commands.{Air, hears, linked, link, Says}
 
--- its answer to the frame of a; with everything as before
-abbrev pub hears : Program → Air → Session → Result
-hears A a s = asked A s (a .image) (frame (a .frame) (a .bits) (a .fresh) (a .room) (a .power))
-
+-- everything as before
 abbrev pub stays : ℕ → Air → Session → Result
 stays n a s = leaves n s (a .image) (a .room)
 
