@@ -15,9 +15,9 @@ use Rattle.image.specs.Worked.{worked}
 use Rattle.frames.specs.Frames.{heardOf}
 use Rattle.replies.specs.Pack.{filled, packed}
 use Rattle.stores.specs.Stores.{powerStores}
-use Rattle.tag.specs.declared.Cover.the-variants as cover
-use Rattle.tag.specs.declared.Half.the-variants as half
-use Rattle.tag.specs.declared.State.the-variants as state
+use Rattle.states.specs.declared.Cover.the-variants as cover
+use Rattle.states.specs.declared.Half.the-variants as half
+use Rattle.states.specs.declared.State.the-variants as state
 use Rattle.tag.specs.Session.{offSession, on}
 use Rattle.tag.specs.Power.{started, powerUpOf}
 use Rattle.tag.specs.Table.{input, frameOf, admitOf}

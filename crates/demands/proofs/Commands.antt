@@ -24,19 +24,19 @@ use Rattle.replies.specs.Pack.{packed}
 use Rattle.rights.specs.declared.Code.{Code}
 use Rattle.rights.specs.declared.Code.the-variants as code
 use Rattle.stores.specs.Stores.{changeStores}
-use Rattle.tag.specs.declared.Cover.{Cover}
-use Rattle.tag.specs.declared.Cover.the-variants as cover
-use Rattle.tag.specs.declared.Half.{Half}
-use Rattle.tag.specs.declared.Half.the-variants as half
-use Rattle.tag.specs.declared.Link.{Link}
-use Rattle.tag.specs.declared.Part.the-variants as part
+use Rattle.states.specs.declared.Cover.{Cover}
+use Rattle.states.specs.declared.Cover.the-variants as cover
+use Rattle.states.specs.declared.Half.{Half}
+use Rattle.states.specs.declared.Half.the-variants as half
+use Rattle.states.specs.declared.Link.{Link}
+use Rattle.states.specs.declared.Part.the-variants as part
 use Rattle.tag.specs.declared.Register.{Register}
-use Rattle.tag.specs.declared.State.{State}
-use Rattle.tag.specs.declared.State.the-variants as state
+use Rattle.states.specs.declared.State.{State}
+use Rattle.states.specs.declared.State.the-variants as state
 use Rattle.tag.specs.declared.Session.{Session}
 use Rattle.tag.specs.Session.{offSession, on}
 use Rattle.tag.specs.Result.{Result, leaves}
-use Rattle.tag.specs.Commands.{asksOf, linkOf, isSecured, isCovered, isKilled, wrong, wrongCommand, killWord, accessWord, breaks, codeOf, used, stateAfter, replyAfter, wordsAfter}
+use Rattle.states.specs.Commands.{asksOf, linkOf, isSecured, isCovered, isKilled, wrong, wrongCommand, killWord, accessWord, breaks, codeOf, used, stateAfter, replyAfter, wordsAfter}
 use Rattle.tag.specs.Table.{Input, input, said, malformed, checksumWrong, broken, errorCode, newState, doneReply, doneWords, isError, replyOr, replyOf, storesOf, fits, replied, rows, frameOf, admitOf}
 use Rattle.tag.specs.Port.{badCount, badData, refusals, transferred, withKilled, withUnwritten, someUnwritten, writtenWords, readBits, portWords, askOf, releaseOf, registerOf, readOf, writeOf}
 use Rattle.demands.specs.Calls.{Idle}

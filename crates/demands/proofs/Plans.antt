@@ -30,10 +30,10 @@ use Rattle.rights.proofs.Banks.{bank-end}
 use Rattle.rights.specs.Rights.{bankOf, pwdBit, permaBit, mayWrite, beyond, badPc, blockOpen, lockedTo, pairBreaks}
 use Rattle.stores.specs.Cuts.{Change}
 use Rattle.stores.proofs.Sane.{goes-under}
-use Rattle.tag.specs.declared.Half.{Half}
-use Rattle.tag.specs.declared.Half.the-variants as half
-use Rattle.tag.specs.declared.Link.{Link}
-use Rattle.tag.specs.Commands.{codeOf, uncovered, placeOf, killWords, wordsAfter}
+use Rattle.states.specs.declared.Half.{Half}
+use Rattle.states.specs.declared.Half.the-variants as half
+use Rattle.states.specs.declared.Link.{Link}
+use Rattle.states.specs.Commands.{codeOf, uncovered, placeOf, killWords, wordsAfter}
 use Rattle.tag.specs.Port.{portOpen, portWrites, writtenWords}
 use Rattle.tag.proofs.Plans.{within-bank, perma-small, write-rows, perma-rows, lock-rows}
 use Rattle.demands.proofs.Sound.{Sound, bank-sound, user-sound, lock-sound, killed-sound, perma-sound}

@@ -27,7 +27,7 @@ use Rattle.rights.specs.declared.Code.the-variants as code
 use Rattle.stores.specs.Stores.{changeStores}
 use Rattle.tag.specs.declared.Session.{Session}
 use Rattle.tag.specs.Result.{Result}
-use Rattle.tag.specs.Commands.{isKilled, linkOf, isSecured}
+use Rattle.states.specs.Commands.{isKilled, linkOf, isSecured}
 use Rattle.tag.specs.Session.{offSession}
 use Rattle.tag.specs.Table.{Input, input, said, isOff, liveOf, broken, errorCode, doneReply, doneWords, replyOr, isError, newState, replyOf, fits, storesOf, replied, cut, rows, frameOf}
 use Rattle.tag.specs.Port.{badCount, badData, portWords, refusals, transferred, registerTo, withKilled, withUnwritten, someUnwritten, writeOf}

@@ -23,12 +23,12 @@ use Rattle.replies.proofs.Laws.{packed-none}
 use Rattle.rights.specs.declared.Code.{Code}
 use Rattle.rights.specs.declared.Code.the-variants as code
 use Rattle.stores.specs.Stores.{changeStores, powerStores}
-use Rattle.tag.specs.declared.State.the-variants as state
+use Rattle.states.specs.declared.State.the-variants as state
 use Rattle.tag.specs.declared.Session.{Session}
 use Rattle.tag.specs.Session.{offSession, newSession}
 use Rattle.tag.specs.Result.{Result, leaves}
 use Rattle.tag.specs.One.{one-outcome}
-use Rattle.tag.specs.Commands.{linkOf, isKilled, used}
+use Rattle.states.specs.Commands.{linkOf, isKilled, used}
 use Rattle.tag.specs.Power.{poweredTo, firstIn, started, powerUpOf}
 use Rattle.tag.specs.Table.{Input, input, said, stateOf, liveOf, isOff, isArbitrate, isError, errorCode, doneReply, newState, replyOr, replyOf, fits, storesOf, movedTo, dropped, replied, rows, frameOf, answered, admitOf}
 use Rattle.tag.specs.Port.{isLinked, heldTo, told, askOf, releaseOf, registerOf, badCount, badData, readBits, portWords, someUnwritten, registerTo, withKilled, withUnwritten, transferred, refusals, readOf, writeOf}

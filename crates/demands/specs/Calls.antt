@@ -15,7 +15,7 @@ use Rattle.tag.specs.declared.Session.{Session}
 use Rattle.tag.specs.declared.Outcome.{Outcome}
 use Rattle.tag.specs.Session.{offSession}
 use Rattle.tag.specs.Result.{Result, result}
-use Rattle.tag.specs.Commands.{isKilled}
+use Rattle.states.specs.Commands.{isKilled}
 use Rattle.tag.specs.Power.{powerUpOf}
 use Rattle.tag.specs.Table.{input, liveOf, errorCode, storesOf, frameOf, admitOf}
 use Rattle.tag.specs.Port.{askOf, releaseOf, registerOf, readOf, portWords, writeOf}

@@ -26,17 +26,17 @@ use Rattle.replies.specs.Pack.{packed}
 use Rattle.rights.specs.declared.Code.the-variants as code
 use Rattle.rights.specs.Rights.{bankOf, spanWords, readCode, writeCode, lockedTo, lockCode, permaReadCode, permaCode}
 use Rattle.stores.specs.Stores.{changeStores, powerStores}
-use Rattle.tag.specs.declared.Cover.{Cover}
-use Rattle.tag.specs.declared.Cover.the-variants as cover
-use Rattle.tag.specs.declared.Half.{Half}
-use Rattle.tag.specs.declared.Half.the-variants as half
-use Rattle.tag.specs.declared.Link.{Link}
+use Rattle.states.specs.declared.Cover.{Cover}
+use Rattle.states.specs.declared.Cover.the-variants as cover
+use Rattle.states.specs.declared.Half.{Half}
+use Rattle.states.specs.declared.Half.the-variants as half
+use Rattle.states.specs.declared.Link.{Link}
 use Rattle.tag.specs.declared.Register.{Register}
-use Rattle.tag.specs.declared.State.{State}
-use Rattle.tag.specs.declared.State.the-variants as state
+use Rattle.states.specs.declared.State.{State}
+use Rattle.states.specs.declared.State.the-variants as state
 use Rattle.tag.specs.Session.{on, clear}
 use Rattle.tag.specs.Result.{Result, leaves}
-use Rattle.tag.specs.Commands.{accessWord, killWord, zeroKill, zeroAccess, isKilled}
+use Rattle.states.specs.Commands.{accessWord, killWord, zeroKill, zeroAccess, isKilled}
 use Rattle.tag.specs.Power.{poweredTo, powerUpOf}
 use Rattle.tag.specs.Table.{input, frameOf, answered, admitOf}
 use Rattle.tag.specs.Port.{isLinked, numberIn, writtenWords, someUnwritten, transferred, askOf, releaseOf, registerOf, readOf, writeOf, withUnwritten, withKilled}

@@ -12,8 +12,8 @@ use Rattle.image.specs.Content.{rulesHold, contentGood}
 use Rattle.image.specs.Worked.{worked, workedLayout, bytesOf}
 use Rattle.replies.specs.Pack.{filled, packed}
 use Rattle.stores.specs.Stores.{changeStores}
-use Rattle.tag.specs.declared.State.{State}
-use Rattle.tag.specs.declared.State.the-variants as state
+use Rattle.states.specs.declared.State.{State}
+use Rattle.states.specs.declared.State.the-variants as state
 use Rattle.tag.specs.declared.Session.{Session}
 use Rattle.tag.specs.declared.Outcome.{Outcome}
 use Rattle.tag.specs.Session.{offSession, on, newSession}

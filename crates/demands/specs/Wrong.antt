@@ -7,7 +7,7 @@ use native.Mathlib.Omega.{arith}
 use lib.ListN.{replicate}
 use Rattle.bits.specs.Words.{wordAt}
 use Rattle.image.specs.Worked.{worked}
-use Rattle.tag.specs.declared.State.the-variants as state
+use Rattle.states.specs.declared.State.the-variants as state
 use Rattle.tag.specs.declared.Session.{Session}
 use Rattle.tag.specs.Session.{offSession, newSession}
 use Rattle.tag.specs.Result.{Result}

@@ -24,20 +24,20 @@ use Rattle.bits.specs.Words.{Store}
 use Rattle.rights.proofs.Banks.{bank-end as Banks·bank-end}
 use Rattle.rights.specs.declared.Code.{Code}
 use Rattle.rights.specs.declared.Code.the-variants as code
-use Rattle.bits.specs.Bits.{bitAt}
+use Rattle.bits.specs.Bits.{bitAt, fieldAt}
 use Rattle.bits.specs.Below.{every}
 use Rattle.rights.specs.Rights.{bankOf, beyond, mayWrite, badPc, spanWords, readCode, writeCode, lockedTo, pairBreaks, lockCode, notPerma, permaReadCode, permaCode}
 use Rattle.changes.specs.Changes.{Holds}
-use Rattle.tag.specs.declared.Half.{Half}
-use Rattle.tag.specs.declared.Half.the-variants as half
-use Rattle.tag.specs.declared.Link.{Link}
-use Rattle.tag.specs.declared.State.{State}
-use Rattle.tag.specs.declared.Part.the-variants as part
+use Rattle.states.specs.declared.Half.{Half}
+use Rattle.states.specs.declared.Half.the-variants as half
+use Rattle.states.specs.declared.State.{State}
+use Rattle.plans.specs.declared.Plan.{Plan}
+use Rattle.plans.specs.Plans.{Placed, unless, killBy, planOf}
 use Rattle.tag.specs.declared.Live.{Live}
 use Rattle.frames.specs.declared.Command.{Command}
 use Rattle.tag.specs.Result.{Result, result}
-use Rattle.tag.specs.Commands.{asksOf, linkOf, isSecured, wrongCommand, breaks, codeOf, placeOf}
-use Rattle.tag.specs.Steps.{waiting, gateBy, kept, errorEnd, tellEnd, storeEnd, doneEnd, actOf, byCode, droppedWith, movedWith, orderOf, commandOf}
+use Rattle.states.specs.Commands.{asksOf, linkOf, isSecured, uncovered, wrongCommand, breaks, killCode, killReply, killWords, killed, placeOf}
+use Rattle.tag.specs.Steps.{kept, tellEnd, storeEnd, doneEnd, actOf, byCode, droppedWith, movedWith, orderOf, commandOf, Sound, performOf}
 
 -- a row that does not hold, and those after it
 none-row : (b : Bool) (e : ℕ) (rest : Code) → cond b (code.Error e) rest ≡ code.Nothing → (b ≡ false) × (rest ≡ code.Nothing)
@@ -200,46 +200,60 @@ module _ (l : Live) (w : ℕ) (m room : List ℕ) (s : ℕ) (st : State) (ss : L
         go true q = store-cut q
         go false q = store-whole q
 
--- an order by its error code
-module _ (l : Live) (y : Layout) (m f : List ℕ) (fresh : ℕ) (room : List ℕ) (s : ℕ) (o : Order) where
-  pub order-done : codeOf y m (isSecured (l .state)) (linkOf (l .state)) f o ≡ code.Nothing → actOf l y m f fresh room s o ≡ orderOf l y m f fresh room s o
-  order-done e = sym (ap (λ (c : Code). byCode c l y m f fresh room s o) e)
+-- a plan that an order comes to can be performed
+module _ (w n : ℕ) where
+  unless-sound : (c : Code) (p : Plan) → (c ≡ code.Nothing → Sound w n p) → Sound w n (unless c p)
+  unless-sound code.Nothing p h = h refl
+  unless-sound (code.Error e) p h = tt
 
-  pub order-error : (e : ℕ) → codeOf y m (isSecured (l .state)) (linkOf (l .state)) f o ≡ code.Error e → errorEnd l m room e ≡ orderOf l y m f fresh room s o
-  order-error e h = sym (ap (λ (c : Code). byCode c l y m f fresh room s o) h)
+module _ (y : Layout) (m f : List ℕ) (st : State) (g : Header y m) where
+  kill-sound : (h : ℕ) (half : Half) → Sound (y .work .at) (length m) (killBy y st h half)
+  kill-sound h half.Nothing = tt
+  kill-sound h (half.Access up) = tt
+  kill-sound h (half.Kill up) = killed-held y m g
 
--- orders that do the same come to the same
-pub same-order : (e : Code) (l : Live) (y : Layout) (m room f f₁ : List ℕ) (fresh fresh₁ s s₁ : ℕ) (o o₁ : Order) → actOf l y m f fresh room s o ≡ actOf l y m f₁ fresh₁ room s₁ o₁
-    → byCode e l y m f fresh room s o ≡ byCode e l y m f₁ fresh₁ room s₁ o₁
-same-order code.Nothing l y m room f f₁ fresh fresh₁ s s₁ o o₁ h = h
-same-order (code.Error e) l y m room f f₁ fresh fresh₁ s s₁ o o₁ h = refl
+  pub plan-sound : (o : Order) → Placed o → Sound (y .work .at) (length m) (planOf y m f st o)
+  plan-sound order.ReqRn q = tt
+  plan-sound (order.Read s) q = unless-sound _ _ (readCode y m (isSecured st) s) _ (read-fits y m g m (isSecured st) s)
+  plan-sound (order.Write s w) q = unless-sound _ _ (writeCode y m (isSecured st) s (uncovered (linkOf st .cover) w)) _ (word-held y m g m (isSecured st) s _)
+  plan-sound (order.Kill h) q = unless-sound _ _ (killCode y m (linkOf st .half)) _ (λ e. kill-sound h (linkOf st .half))
+  plan-sound (order.Lock mask action) q = unless-sound _ _ (lockCode y m mask action) _ (λ e. lock-held y m g)
+  plan-sound (order.Access h) q = tt
+  plan-sound (order.BlockWrite s p) q = unless-sound _ _ (writeCode y m (isSecured st) s (fieldAt f (p + 16 * (1 - s .pointer)) 16)) _ (λ e. (words-held y m g m (isSecured st) s _ e, q))
+  plan-sound (order.BlockErase s) q = unless-sound _ _ (writeCode y m (isSecured st) s 0) _ (words-held y m g m (isSecured st) s 0)
+  plan-sound (order.ReadPermalock r s) q = unless-sound _ _ (permaReadCode y s) _ (read-perma-fits y m g m (isSecured st) s)
+  plan-sound (order.Permalock r s p) q =
+      unless-sound _ _ (permaCode y m s f p) _ (λ e. let h = mask-held y m g m (isSecured st) s f p e in (h .0, q, h .1))
 
--- the gate's number, and which test it is of
-pub gate-wrong : (a b : Bool) {n : ℕ} → n ≡ gateBy a b → n ≡ 9 → a ≡ true
-gate-wrong true b e h = refl
-gate-wrong false true e h = absurd (omega arith)
-gate-wrong false false e h = absurd (omega arith)
+-- and comes to what the table says of the order
+module _ (l : Live) (y : Layout) (m f : List ℕ) (fresh : ℕ) (room : List ℕ) (s : ℕ) where
+  perform : Plan → Result
+  perform p = performOf l y m f fresh room s p
 
-pub gate-broken : (a b : Bool) {n : ℕ} → n ≡ gateBy a b → (n ≡ 9 → ⊥) → (n ≡ 0 → ⊥) → (a ≡ false) × (b ≡ true)
-gate-broken true b e p q = absurd (p e)
-gate-broken false true e p q = (refl, refl)
-gate-broken false false e p q = absurd (q e)
+  unless-performs : (o : Order) (c : Code) (p : Plan) → perform p ≡ actOf l y m f fresh room s o → perform (unless c p) ≡ byCode c l y m f fresh room s o
+  unfolding perform
+  unless-performs o code.Nothing p h = h
+  unless-performs o (code.Error e) p h = refl
 
-pub gate-open : (a b : Bool) {n : ℕ} → n ≡ gateBy a b → n ≡ 0 → (a ≡ false) × (b ≡ false)
-gate-open true b e h = absurd (omega arith)
-gate-open false true e h = absurd (omega arith)
-gate-open false false e h = (refl, refl)
+  kill-performs : (h : ℕ) (a : Half)
+      → perform (killBy y (l .state) h a) ≡ doneEnd l (y .work .at) m room s (killReply (linkOf (l .state) .handle) a) (killed (l .state) h a) (killWords y a)
+  unfolding perform
+  kill-performs h half.Nothing = refl
+  kill-performs h (half.Access up) = refl
+  kill-performs h (half.Kill up) = refl
 
--- what breaks halves, for orders that have no part in a password
-pub breaks-number : (y : Layout) (m : List ℕ) (k : Link) (h : Half) → breaks y m k h part.Number ≡ false
-breaks-number y m k half.Nothing = refl
-breaks-number y m k (half.Access up) = refl
-breaks-number y m k (half.Kill up) = refl
-
-pub breaks-other : (y : Layout) (m : List ℕ) (k : Link) (h : Half) → breaks y m k h part.Other ≡ waiting h
-breaks-other y m k half.Nothing = refl
-breaks-other y m k (half.Access up) = refl
-breaks-other y m k (half.Kill up) = refl
+  pub plan-performs : (o : Order) → performOf l y m f fresh room s (planOf y m f (l .state) o) ≡ orderOf l y m f fresh room s o
+  unfolding perform actOf
+  plan-performs order.ReqRn = refl
+  plan-performs (order.Read p) = unless-performs (order.Read p) (readCode y m (isSecured (l .state)) p) _ refl
+  plan-performs (order.Write p w) = unless-performs (order.Write p w) (writeCode y m (isSecured (l .state)) p (uncovered (linkOf (l .state) .cover) w)) _ refl
+  plan-performs (order.Kill h) = unless-performs (order.Kill h) (killCode y m (linkOf (l .state) .half)) _ (kill-performs h (linkOf (l .state) .half))
+  plan-performs (order.Lock mask action) = unless-performs (order.Lock mask action) (lockCode y m mask action) _ refl
+  plan-performs (order.Access h) = refl
+  plan-performs (order.BlockWrite p b) = unless-performs (order.BlockWrite p b) (writeCode y m (isSecured (l .state)) p (fieldAt f (b + 16 * (1 - p .pointer)) 16)) _ refl
+  plan-performs (order.BlockErase p) = unless-performs (order.BlockErase p) (writeCode y m (isSecured (l .state)) p 0) _ refl
+  plan-performs (order.ReadPermalock r p) = unless-performs (order.ReadPermalock r p) (permaReadCode y p) _ refl
+  plan-performs (order.Permalock r p b) = unless-performs (order.Permalock r p b) (permaCode y m p f b) _ refl
 
 -- a command's three ways: wrong, broken, or by its order
 module _ (l : Live) (y : Layout) (m f : List ℕ) (fresh : ℕ) (room : List ℕ) (s : ℕ) (c : Command) where

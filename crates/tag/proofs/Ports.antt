@@ -37,7 +37,7 @@ use Rattle.tag.specs.declared.Power.the-variants as power
 use Rattle.tag.specs.declared.Session.{Session}
 use Rattle.tag.specs.Session.{offSession}
 use Rattle.tag.specs.Result.{Result, leaves}
-use Rattle.tag.specs.Commands.{isKilled, accessWord}
+use Rattle.states.specs.Commands.{isKilled, accessWord}
 use Rattle.tag.specs.Table.{isOff, liveOf}
 use Rattle.tag.specs.Steps.{kept, neededFor, onSession}
 use Rattle.tag.specs.Port.{bitOf, registerTo, withKilled, withUnwritten, transferred, badCount, badData, readBits, readOf, portOpen, portWrites, writtenWords, portWords, someUnwritten, writeOf}

@@ -15,14 +15,14 @@ use Rattle.image.specs.Check.{imageRows}
 use Rattle.rights.specs.Rights.{pwdBit, blockOpen}
 use Rattle.replies.specs.Pack.{packed}
 use Rattle.stores.specs.Stores.{changeStores}
-use Rattle.tag.specs.declared.State.{State}
-use Rattle.tag.specs.declared.State.the-variants as state
+use Rattle.states.specs.declared.State.{State}
+use Rattle.states.specs.declared.State.the-variants as state
 use Rattle.tag.specs.declared.Register.{Register}
 use Rattle.tag.specs.declared.Live.{Live}
 use Rattle.tag.specs.declared.Session.{Session}
 use Rattle.tag.specs.Session.{offSession, on, clear}
 use Rattle.tag.specs.Result.{Result, leaves}
-use Rattle.tag.specs.Commands.{isKilled, zeroAccess}
+use Rattle.states.specs.Commands.{isKilled, zeroAccess}
 use Rattle.tag.specs.Table.{isOff, liveOf, answered}
 
 -- a session with its port held or free, or with another register

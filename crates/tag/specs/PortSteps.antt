@@ -17,7 +17,7 @@ use Rattle.tag.specs.declared.Power.the-variants as power
 use Rattle.tag.specs.declared.Session.{Session}
 use Rattle.tag.specs.Session.{offSession}
 use Rattle.tag.specs.Result.{Result}
-use Rattle.tag.specs.Commands.{isKilled}
+use Rattle.states.specs.Commands.{isKilled}
 use Rattle.tag.specs.Steps.{kept}
 use Rattle.tag.specs.Port.{bitOf, registerTo, withKilled, withUnwritten, transferred, badCount, portWords, someUnwritten}
 

@@ -11,8 +11,8 @@ use Rattle.image.specs.Layout.{layoutOf}
 use Rattle.image.specs.Content.{killedWord}
 use Rattle.image.specs.Check.{imageRows}
 use Rattle.stores.specs.Stores.{powerStores}
-use Rattle.tag.specs.declared.State.{State}
-use Rattle.tag.specs.declared.State.the-variants as state
+use Rattle.states.specs.declared.State.{State}
+use Rattle.states.specs.declared.State.the-variants as state
 use Rattle.tag.specs.declared.Session.{Session}
 use Rattle.tag.specs.Session.{offSession, newSession}
 use Rattle.tag.specs.Result.{Result, leaves}

@@ -1,14 +1,14 @@
 -- Outcomes, plans and the table's ends as the code makes them. Assumes nothing.
-use Prim.Native.Nat.{ℕ, _+_, _*_, _≤_}
-use mathlib.Core.Bool.{Bool, true, false, cond, not}
-use mathlib.Core.List.{List, []}
+use Prim.Native.Nat.{ℕ, _+_, _*_, _≤_, _<_}
+use mathlib.Core.Bool.{cond, not}
+use mathlib.Core.List.{List, [], _∷_}
 use lib.Dec.{eqb, ltb}
 use lib.ListN.{length, take}
-use Rattle.bits.specs.Words.{Store, after}
+use Rattle.bits.specs.Words.{Store, store, after}
+use Rattle.bits.specs.Below.{below}
 use Rattle.image.specs.declared.Layout.{Layout}
 use Rattle.image.specs.Content.{countIn}
 use Rattle.frames.specs.declared.Order.{Order}
-use Rattle.frames.specs.declared.Order.the-variants as order
 use Rattle.frames.specs.declared.Command.{Command}
 use Rattle.frames.specs.declared.Heard.{Heard}
 use Rattle.frames.specs.declared.Heard.the-variants as heard
@@ -20,10 +20,12 @@ use Rattle.replies.specs.Pack.{packed}
 use Rattle.rights.specs.declared.Code.{Code}
 use Rattle.rights.specs.declared.Code.the-variants as code
 use Rattle.stores.specs.Stores.{changeStores}
-use Rattle.tag.specs.declared.Half.{Half}
-use Rattle.tag.specs.declared.Half.the-variants as half
-use Rattle.tag.specs.declared.State.{State}
-use Rattle.tag.specs.declared.State.the-variants as state
+use Rattle.stores.specs.Steps.{wordFrom}
+use Rattle.changes.specs.Changes.{Holds, orTo}
+use Rattle.plans.specs.declared.Plan.{Plan}
+use Rattle.plans.specs.declared.Plan.the-variants as plan
+use Rattle.states.specs.declared.State.{State}
+use Rattle.states.specs.declared.State.the-variants as state
 use Rattle.tag.specs.declared.Live.{Live}
 use Rattle.tag.specs.declared.Power.the-variants as power
 use Rattle.tag.specs.declared.Session.{Session}
@@ -32,38 +34,12 @@ use Rattle.tag.specs.declared.Answer.the-variants as answer
 use Rattle.tag.specs.declared.Outcome.{Outcome}
 use Rattle.tag.specs.Session.{offSession}
 use Rattle.tag.specs.Result.{Result, result}
-use Rattle.tag.specs.Commands.{asksOf, linkOf, isSecured, isKilled, wrongBy, wrongCommand, breaks, codeOf, used, stateAfter, replyAfter, wordsAfter}
+use Rattle.states.specs.Commands.{asksOf, linkOf, isSecured, isKilled, wrongCommand, breaks, codeOf, used, numbered, stateAfter, replyAfter, wordsAfter}
 use Rattle.tag.specs.Table.{fits, movedTo}
 
 -- an Off session, after so many stores
 abbrev pub stoppedAt : Answer → ℕ → Outcome
 stoppedAt a k = record { answer = a; session = offSession; reply = 0; stores = k; value = 0 }
-
--- the words of a frame begin in its first bytes
-abbrev pub Placed : Order → Type 0
-Placed order.ReqRn = Unit {0}
-Placed (order.Read s) = Unit {0}
-Placed (order.Write s w) = Unit {0}
-Placed (order.Kill h) = Unit {0}
-Placed (order.Lock m a) = Unit {0}
-Placed (order.Access h) = Unit {0}
-Placed (order.BlockWrite s p) = p ≤ 51
-Placed (order.BlockErase s) = Unit {0}
-Placed (order.ReadPermalock r s) = Unit {0}
-Placed (order.Permalock r s p) = p ≤ 51
-
--- a half waits
-abbrev pub waiting : Half → Bool
-waiting half.Nothing = false
-waiting (half.Access up) = true
-waiting (half.Kill up) = true
-
--- the number of the answer that stops an order before its code: wrong, broken, or none
-abbrev pub gateBy : Bool → Bool → ℕ
-gateBy wrong broken = cond wrong 9 (cond broken 12 0)
-
-abbrev pub gateOf : Layout → List ℕ → State → ℕ → Order → ℕ
-gateOf y m st n o = gateBy (wrongBy st n (asksOf o)) (breaks y m (linkOf st) (linkOf st .half) (asksOf o .part))
 
 -- a session under power
 abbrev pub onSession : Live → Session
@@ -141,6 +117,33 @@ storeEnd l st m room made need s =
 -- how many stores a change of c words needs
 abbrev pub neededFor : ℕ → ℕ
 neededFor c = cond (eqb c 0) 0 (3 * c + 2)
+
+-- a plan that an image of n bytes with WORK at word w can take
+abbrev pub Sound : ℕ → ℕ → Plan → Type 0
+Sound w n (plan.Error e) = Unit {0}
+Sound w n (plan.Silent st) = Unit {0}
+Sound w n (plan.Number st k) = Unit {0}
+Sound w n (plan.Words st at k) = (2 * (at + k) ≤ n) × (k < 65536)
+Sound w n (plan.Word st v at) = Holds w at 1 n
+Sound w n (plan.Bits st at k p) = Holds w at k n × (p ≤ 51)
+Sound w n (plan.Zeros st at k) = Holds w at k n
+Sound w n (plan.Mask st at k p) = Holds w at k n × (p ≤ 51) × (k ≤ 16)
+Sound w n plan.Numbered = Unit {0}
+
+-- what a plan comes to
+abbrev pub storedEnd : Live → ℕ → List ℕ → List ℕ → ℕ → State → List Store → Result
+storedEnd l w m room s st ss = doneEnd l w m room s (reply.Success (linkOf (l .state) .handle)) st ss
+
+abbrev pub performOf : Live → Layout → List ℕ → List ℕ → ℕ → List ℕ → ℕ → Plan → Result
+performOf l y m f fresh room s (plan.Error e) = errorEnd l m room e
+performOf l y m f fresh room s (plan.Silent st) = doneEnd l (y .work .at) m room s reply.Silence st []
+performOf l y m f fresh room s (plan.Number st n) = doneEnd l (y .work .at) m room s (reply.Number n) st []
+performOf l y m f fresh room s (plan.Words st at k) = doneEnd l (y .work .at) m room s (reply.Words at k (linkOf (l .state) .handle)) st []
+performOf l y m f fresh room s (plan.Word st v at) = storedEnd l (y .work .at) m room s st (store at v ∷ [])
+performOf l y m f fresh room s (plan.Bits st at n p) = storedEnd l (y .work .at) m room s st (below (wordFrom at f p) n)
+performOf l y m f fresh room s (plan.Zeros st at n) = storedEnd l (y .work .at) m room s st (below (λ j. store (at + j) 0) n)
+performOf l y m f fresh room s (plan.Mask st at n p) = storedEnd l (y .work .at) m room s st (below (orTo m f at p) n)
+performOf l y m f fresh room s plan.Numbered = doneEnd l (y .work .at) m room s (reply.Number fresh) (numbered y m fresh (l .state)) []
 
 -- an order that no refusal stops
 unfoldable pub actOf : Live → Layout → List ℕ → List ℕ → ℕ → List ℕ → ℕ → Order → Result

@@ -20,15 +20,15 @@ use Rattle.replies.specs.Pack.{packed}
 use Rattle.rights.specs.declared.Code.{Code}
 use Rattle.rights.specs.declared.Code.the-variants as code
 use Rattle.stores.specs.Stores.{changeStores}
-use Rattle.tag.specs.declared.State.{State}
-use Rattle.tag.specs.declared.State.the-variants as state
+use Rattle.states.specs.declared.State.{State}
+use Rattle.states.specs.declared.State.the-variants as state
 use Rattle.tag.specs.declared.Live.{Live}
 use Rattle.tag.specs.declared.Power.{Power}
 use Rattle.tag.specs.declared.Power.the-variants as power
 use Rattle.tag.specs.declared.Session.{Session}
 use Rattle.tag.specs.Session.{offSession, on, clear}
 use Rattle.tag.specs.Result.{Result, leaves}
-use Rattle.tag.specs.Commands.{asksOf, linkOf, isSecured, wrong, breaks, codeOf, used, stateAfter, replyAfter, wordsAfter}
+use Rattle.states.specs.Commands.{asksOf, linkOf, isSecured, wrong, breaks, codeOf, used, stateAfter, replyAfter, wordsAfter}
 
 -- what a frame call is handed
 pub record Input : Type 0 where

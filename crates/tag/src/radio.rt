@@ -12,11 +12,10 @@ use crate::Live;
 use crate::Outcome;
 use crate::Power;
 use crate::Session;
-use crate::State;
 use crate::acting;
 use crate::answering;
-use crate::orders;
 use frames::Heard;
+use states::State;
 
 // Everything stays.
 pub fn unmoved(session: Session, answer: Answer) -> Outcome
@@ -67,7 +66,7 @@ fn hearing(
         Heard::Malformed => answering::refused(l, Answer::Malformed),
         Heard::Nak => {
             let state = l.state;
-            if orders::is_killed(state) {
+            if states::is_killed(state) {
                 return answering::refused(l, Answer::Wrong);
             }
             silent(l, State::Arbitrate)

@@ -1,6 +1,6 @@
 -- `tag::answering::handle` meets its contract: the state's link has it. Assumes nothing.
 use mathlib.Core.Path.{ap}
-use Rattle.tag.specs.declared.Link.{Link}
+use Rattle.states.specs.declared.Link.{Link}
 use borrow.Author.Needs.{needs}
 use Rattle.tag.proofs.answering.handle.Statement.{statement}
 use Rattle.tag.proofs.answering.handle.Tie as tie
