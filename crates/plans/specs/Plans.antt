@@ -13,7 +13,7 @@ use Rattle.rights.specs.Rights.{bankOf, spanWords, readCode, writeCode, lockedT
 use Rattle.states.specs.declared.Half.{Half}
 use Rattle.states.specs.declared.Half.the-variants as half
 use Rattle.states.specs.declared.State.{State}
-use Rattle.states.specs.Commands.{linkOf, isSecured, uncovered, killCode, used, accessed, killed, placeOf}
+use Rattle.states.specs.Commands.{linkOf, isSecured, uncovered, killCode, used, numbered, accessed, killed, placeOf}
 use Rattle.plans.specs.declared.Plan.{Plan}
 use Rattle.plans.specs.declared.Plan.the-variants as plan
 
@@ -61,17 +61,21 @@ readPermalockPlan y st s = unless (permaReadCode y s) (plan.Words (used st) (y .
 abbrev pub permalockPlan : Layout → List ℕ → List ℕ → State → Span → ℕ → Plan
 permalockPlan y m f st s p = unless (permaCode y m s f p) (plan.Mask (used st) (y .perma .at + s .pointer) (s .count) p)
 
-abbrev pub planOf : Layout → List ℕ → List ℕ → State → Order → Plan
-planOf y m f st order.ReqRn = plan.Numbered
-planOf y m f st (order.Read s) = readPlan y m st s
-planOf y m f st (order.Write s w) = writePlan y m st s w
-planOf y m f st (order.Kill h) = killPlan y m st h
-planOf y m f st (order.Lock mask action) = lockPlan y m st mask action
-planOf y m f st (order.Access h) = accessPlan st h
-planOf y m f st (order.BlockWrite s p) = blockWritePlan y m f st s p
-planOf y m f st (order.BlockErase s) = blockErasePlan y m st s
-planOf y m f st (order.ReadPermalock r s) = readPermalockPlan y st s
-planOf y m f st (order.Permalock r s p) = permalockPlan y m f st s p
+-- the fresh word becomes the handle, or the cover number
+abbrev pub reqRnPlan : Layout → List ℕ → State → ℕ → Plan
+reqRnPlan y m st fresh = plan.Number (numbered y m fresh st) fresh
+
+abbrev pub planOf : Layout → List ℕ → List ℕ → ℕ → State → Order → Plan
+planOf y m f fresh st order.ReqRn = reqRnPlan y m st fresh
+planOf y m f fresh st (order.Read s) = readPlan y m st s
+planOf y m f fresh st (order.Write s w) = writePlan y m st s w
+planOf y m f fresh st (order.Kill h) = killPlan y m st h
+planOf y m f fresh st (order.Lock mask action) = lockPlan y m st mask action
+planOf y m f fresh st (order.Access h) = accessPlan st h
+planOf y m f fresh st (order.BlockWrite s p) = blockWritePlan y m f st s p
+planOf y m f fresh st (order.BlockErase s) = blockErasePlan y m st s
+planOf y m f fresh st (order.ReadPermalock r s) = readPermalockPlan y st s
+planOf y m f fresh st (order.Permalock r s p) = permalockPlan y m f st s p
 
 -- the words of a frame begin in its first bytes
 abbrev pub Placed : Order → Type 0

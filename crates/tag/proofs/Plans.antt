@@ -172,31 +172,31 @@ silence-any l w m room s st =
     rw (a, b, packed-none)
 
 -- a change's stores, and what they leave to say
-module _ (l : Live) (w : ℕ) (m room : List ℕ) (s : ℕ) (st : State) (ss : List Store) where
-  pub store-small : length room < 5 → kept 4 l m room ≡ doneEnd l w m room s (reply.Success (linkOf (l .state) .handle)) st ss
+module _ (l : Live) (h w : ℕ) (m room : List ℕ) (s : ℕ) (st : State) (ss : List Store) where
+  pub store-small : length room < 5 → kept 4 l m room ≡ doneEnd l w m room s (reply.Success h) st ss
   unfolding doneEnd
-  store-small h = simp (lt-ltb _ _ h)
+  store-small q = simp (lt-ltb _ _ q)
 
-  module _ {n : List ℕ} {k need : ℕ} (h : 5 ≤ length room) (e : need ≡ length (changeStores w ss)) (p : Made (changeStores w ss) s m n k) where
-    store-cut : ltb s (length (changeStores w ss)) ≡ true → storeEnd l st n room k need s ≡ doneEnd l w m room s (reply.Success (linkOf (l .state) .handle)) st ss
+  module _ {n : List ℕ} {k need : ℕ} (b : 5 ≤ length room) (e : need ≡ length (changeStores w ss)) (p : Made (changeStores w ss) s m n k) where
+    store-cut : ltb s (length (changeStores w ss)) ≡ true → storeEnd l h st n room k need s ≡ doneEnd l w m room s (reply.Success h) st ss
     unfolding storeEnd doneEnd
     store-cut q =
         let c : k ≡ s = omega (arith, p .made, ltb-true s (length (changeStores w ss)) q) in
-        let small : ltb (length room) 5 ≡ false = le-ltb (length room) 5 h in
+        let small : ltb (length room) 5 ≡ false = le-ltb (length room) 5 b in
         rw (e, c, p .image) (simp (small, q))
 
-    store-whole : ltb s (length (changeStores w ss)) ≡ false → storeEnd l st n room k need s ≡ doneEnd l w m room s (reply.Success (linkOf (l .state) .handle)) st ss
+    store-whole : ltb s (length (changeStores w ss)) ≡ false → storeEnd l h st n room k need s ≡ doneEnd l w m room s (reply.Success h) st ss
     unfolding storeEnd doneEnd
     store-whole q =
         let c : k ≡ length (changeStores w ss) = omega (arith, p .made, ltb-false s (length (changeStores w ss)) q) in
         let d : take s (changeStores w ss) ≡ changeStores w ss = take-all s (changeStores w ss) (ltb-false s (length (changeStores w ss)) q) in
-        let small : ltb (length room) 5 ≡ false = le-ltb (length room) 5 h in
+        let small : ltb (length room) 5 ≡ false = le-ltb (length room) 5 b in
         rw (e, c, p .image, d) (simp (small, q))
 
-    pub store-end : storeEnd l st n room k need s ≡ doneEnd l w m room s (reply.Success (linkOf (l .state) .handle)) st ss
+    pub store-end : storeEnd l h st n room k need s ≡ doneEnd l w m room s (reply.Success h) st ss
     store-end = go (ltb s (length (changeStores w ss))) refl
       where
-        go : (b : Bool) → ltb s (length (changeStores w ss)) ≡ b → storeEnd l st n room k need s ≡ doneEnd l w m room s (reply.Success (linkOf (l .state) .handle)) st ss
+        go : (t : Bool) → ltb s (length (changeStores w ss)) ≡ t → storeEnd l h st n room k need s ≡ doneEnd l w m room s (reply.Success h) st ss
         go true q = store-cut q
         go false q = store-whole q
 
@@ -212,38 +212,41 @@ module _ (y : Layout) (m f : List ℕ) (st : State) (g : Header y m) where
   kill-sound h (half.Access up) = tt
   kill-sound h (half.Kill up) = killed-held y m g
 
-  pub plan-sound : (o : Order) → Placed o → Sound (y .work .at) (length m) (planOf y m f st o)
-  plan-sound order.ReqRn q = tt
-  plan-sound (order.Read s) q = unless-sound _ _ (readCode y m (isSecured st) s) _ (read-fits y m g m (isSecured st) s)
-  plan-sound (order.Write s w) q = unless-sound _ _ (writeCode y m (isSecured st) s (uncovered (linkOf st .cover) w)) _ (word-held y m g m (isSecured st) s _)
-  plan-sound (order.Kill h) q = unless-sound _ _ (killCode y m (linkOf st .half)) _ (λ e. kill-sound h (linkOf st .half))
-  plan-sound (order.Lock mask action) q = unless-sound _ _ (lockCode y m mask action) _ (λ e. lock-held y m g)
-  plan-sound (order.Access h) q = tt
-  plan-sound (order.BlockWrite s p) q = unless-sound _ _ (writeCode y m (isSecured st) s (fieldAt f (p + 16 * (1 - s .pointer)) 16)) _ (λ e. (words-held y m g m (isSecured st) s _ e, q))
-  plan-sound (order.BlockErase s) q = unless-sound _ _ (writeCode y m (isSecured st) s 0) _ (words-held y m g m (isSecured st) s 0)
-  plan-sound (order.ReadPermalock r s) q = unless-sound _ _ (permaReadCode y s) _ (read-perma-fits y m g m (isSecured st) s)
-  plan-sound (order.Permalock r s p) q =
+  pub plan-sound : (fresh : ℕ) (o : Order) → Placed o → Sound (y .work .at) (length m) (planOf y m f fresh st o)
+  plan-sound fresh order.ReqRn q = tt
+  plan-sound fresh (order.Read s) q = unless-sound _ _ (readCode y m (isSecured st) s) _ (read-fits y m g m (isSecured st) s)
+  plan-sound fresh (order.Write s w) q = unless-sound _ _ (writeCode y m (isSecured st) s (uncovered (linkOf st .cover) w)) _ (word-held y m g m (isSecured st) s _)
+  plan-sound fresh (order.Kill h) q = unless-sound _ _ (killCode y m (linkOf st .half)) _ (λ e. kill-sound h (linkOf st .half))
+  plan-sound fresh (order.Lock mask action) q = unless-sound _ _ (lockCode y m mask action) _ (λ e. lock-held y m g)
+  plan-sound fresh (order.Access h) q = tt
+  plan-sound fresh (order.BlockWrite s p) q = unless-sound _ _ (writeCode y m (isSecured st) s (fieldAt f (p + 16 * (1 - s .pointer)) 16)) _ (λ e. (words-held y m g m (isSecured st) s _ e, q))
+  plan-sound fresh (order.BlockErase s) q = unless-sound _ _ (writeCode y m (isSecured st) s 0) _ (words-held y m g m (isSecured st) s 0)
+  plan-sound fresh (order.ReadPermalock r s) q = unless-sound _ _ (permaReadCode y s) _ (read-perma-fits y m g m (isSecured st) s)
+  plan-sound fresh (order.Permalock r s p) q =
       unless-sound _ _ (permaCode y m s f p) _ (λ e. let h = mask-held y m g m (isSecured st) s f p e in (h .0, q, h .1))
 
 -- and comes to what the table says of the order
 module _ (l : Live) (y : Layout) (m f : List ℕ) (fresh : ℕ) (room : List ℕ) (s : ℕ) where
+  handle : ℕ
+  handle = linkOf (l .state) .handle
+
   perform : Plan → Result
-  perform p = performOf l y m f fresh room s p
+  perform p = performOf l handle y m f room s p
 
   unless-performs : (o : Order) (c : Code) (p : Plan) → perform p ≡ actOf l y m f fresh room s o → perform (unless c p) ≡ byCode c l y m f fresh room s o
-  unfolding perform
+  unfolding handle perform
   unless-performs o code.Nothing p h = h
   unless-performs o (code.Error e) p h = refl
 
   kill-performs : (h : ℕ) (a : Half)
       → perform (killBy y (l .state) h a) ≡ doneEnd l (y .work .at) m room s (killReply (linkOf (l .state) .handle) a) (killed (l .state) h a) (killWords y a)
-  unfolding perform
+  unfolding handle perform
   kill-performs h half.Nothing = refl
   kill-performs h (half.Access up) = refl
   kill-performs h (half.Kill up) = refl
 
-  pub plan-performs : (o : Order) → performOf l y m f fresh room s (planOf y m f (l .state) o) ≡ orderOf l y m f fresh room s o
-  unfolding perform actOf
+  pub plan-performs : (o : Order) → performOf l (linkOf (l .state) .handle) y m f room s (planOf y m f fresh (l .state) o) ≡ orderOf l y m f fresh room s o
+  unfolding handle perform actOf
   plan-performs order.ReqRn = refl
   plan-performs (order.Read p) = unless-performs (order.Read p) (readCode y m (isSecured (l .state)) p) _ refl
   plan-performs (order.Write p w) = unless-performs (order.Write p w) (writeCode y m (isSecured (l .state)) p (uncovered (linkOf (l .state) .cover) w)) _ refl

@@ -34,7 +34,7 @@ use Rattle.tag.specs.declared.Answer.the-variants as answer
 use Rattle.tag.specs.declared.Outcome.{Outcome}
 use Rattle.tag.specs.Session.{offSession}
 use Rattle.tag.specs.Result.{Result, result}
-use Rattle.states.specs.Commands.{asksOf, linkOf, isSecured, isKilled, wrongCommand, breaks, codeOf, used, numbered, stateAfter, replyAfter, wordsAfter}
+use Rattle.states.specs.Commands.{asksOf, linkOf, isSecured, isKilled, wrongCommand, breaks, codeOf, used, stateAfter, replyAfter, wordsAfter}
 use Rattle.tag.specs.Table.{fits, movedTo}
 
 -- an Off session, after so many stores
@@ -54,9 +54,9 @@ kept n l m room =
     record { number = n; session = onSession l; reply = 0; stores = 0; value = 0; image = m; room = room }
 
 -- an error's reply, or no room for it
-unfoldable pub errorEnd : Live → List ℕ → List ℕ → ℕ → Result
-errorEnd l m room e =
-    let r = reply.Error e (linkOf (l .state) .handle) in
+unfoldable pub errorEnd : Live → ℕ → List ℕ → List ℕ → ℕ → Result
+errorEnd l h m room e =
+    let r = reply.Error e h in
     cond (fits r room)
     (record {
       number = 10;
@@ -99,9 +99,9 @@ abbrev pub tellEnd : Live → List ℕ → List ℕ → Reply → State → Resu
 tellEnd l m room r st = doneEnd l 0 m room 0 r st []
 
 -- after so many of the stores that were needed: too little power, or done
-unfoldable pub storeEnd : Live → State → List ℕ → List ℕ → ℕ → ℕ → ℕ → Result
-storeEnd l st m room made need s =
-    let r = reply.Success (linkOf (l .state) .handle) in
+unfoldable pub storeEnd : Live → ℕ → State → List ℕ → List ℕ → ℕ → ℕ → ℕ → Result
+storeEnd l h st m room made need s =
+    let r = reply.Success h in
     cond (ltb s need)
     (record { number = 11; session = offSession; reply = 0; stores = made; value = 0; image = m; room = room })
     (record {
@@ -128,22 +128,20 @@ Sound w n (plan.Word st v at) = Holds w at 1 n
 Sound w n (plan.Bits st at k p) = Holds w at k n × (p ≤ 51)
 Sound w n (plan.Zeros st at k) = Holds w at k n
 Sound w n (plan.Mask st at k p) = Holds w at k n × (p ≤ 51) × (k ≤ 16)
-Sound w n plan.Numbered = Unit {0}
 
--- what a plan comes to
-abbrev pub storedEnd : Live → ℕ → List ℕ → List ℕ → ℕ → State → List Store → Result
-storedEnd l w m room s st ss = doneEnd l w m room s (reply.Success (linkOf (l .state) .handle)) st ss
+-- what a plan comes to, with this handle
+abbrev pub storedEnd : Live → ℕ → ℕ → List ℕ → List ℕ → ℕ → State → List Store → Result
+storedEnd l h w m room s st ss = doneEnd l w m room s (reply.Success h) st ss
 
-abbrev pub performOf : Live → Layout → List ℕ → List ℕ → ℕ → List ℕ → ℕ → Plan → Result
-performOf l y m f fresh room s (plan.Error e) = errorEnd l m room e
-performOf l y m f fresh room s (plan.Silent st) = doneEnd l (y .work .at) m room s reply.Silence st []
-performOf l y m f fresh room s (plan.Number st n) = doneEnd l (y .work .at) m room s (reply.Number n) st []
-performOf l y m f fresh room s (plan.Words st at k) = doneEnd l (y .work .at) m room s (reply.Words at k (linkOf (l .state) .handle)) st []
-performOf l y m f fresh room s (plan.Word st v at) = storedEnd l (y .work .at) m room s st (store at v ∷ [])
-performOf l y m f fresh room s (plan.Bits st at n p) = storedEnd l (y .work .at) m room s st (below (wordFrom at f p) n)
-performOf l y m f fresh room s (plan.Zeros st at n) = storedEnd l (y .work .at) m room s st (below (λ j. store (at + j) 0) n)
-performOf l y m f fresh room s (plan.Mask st at n p) = storedEnd l (y .work .at) m room s st (below (orTo m f at p) n)
-performOf l y m f fresh room s plan.Numbered = doneEnd l (y .work .at) m room s (reply.Number fresh) (numbered y m fresh (l .state)) []
+abbrev pub performOf : Live → ℕ → Layout → List ℕ → List ℕ → List ℕ → ℕ → Plan → Result
+performOf l h y m f room s (plan.Error e) = errorEnd l h m room e
+performOf l h y m f room s (plan.Silent st) = doneEnd l (y .work .at) m room s reply.Silence st []
+performOf l h y m f room s (plan.Number st n) = doneEnd l (y .work .at) m room s (reply.Number n) st []
+performOf l h y m f room s (plan.Words st at k) = doneEnd l (y .work .at) m room s (reply.Words at k h) st []
+performOf l h y m f room s (plan.Word st v at) = storedEnd l h (y .work .at) m room s st (store at v ∷ [])
+performOf l h y m f room s (plan.Bits st at n p) = storedEnd l h (y .work .at) m room s st (below (wordFrom at f p) n)
+performOf l h y m f room s (plan.Zeros st at n) = storedEnd l h (y .work .at) m room s st (below (λ j. store (at + j) 0) n)
+performOf l h y m f room s (plan.Mask st at n p) = storedEnd l h (y .work .at) m room s st (below (orTo m f at p) n)
 
 -- an order that no refusal stops
 unfoldable pub actOf : Live → Layout → List ℕ → List ℕ → ℕ → List ℕ → ℕ → Order → Result
@@ -154,7 +152,7 @@ actOf l y m f fresh room s o =
 -- by its error code
 abbrev pub byCode : Code → Live → Layout → List ℕ → List ℕ → ℕ → List ℕ → ℕ → Order → Result
 byCode code.Nothing l y m f fresh room s o = actOf l y m f fresh room s o
-byCode (code.Error e) l y m f fresh room s o = errorEnd l m room e
+byCode (code.Error e) l y m f fresh room s o = errorEnd l (linkOf (l .state) .handle) m room e
 
 abbrev pub orderOf : Live → Layout → List ℕ → List ℕ → ℕ → List ℕ → ℕ → Order → Result
 orderOf l y m f fresh room s o = byCode (codeOf y m (isSecured (l .state)) (linkOf (l .state)) f o) l y m f fresh room s o

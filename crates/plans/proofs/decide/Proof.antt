@@ -10,7 +10,7 @@ permalock-requires : tie.Need-permalock-requires
 permalock-requires c κs = (c .before .before .before .before .before .pre .0, rw (c .before .order9 .given .1) at (c .before .before .before .before .before .pre .1))
 
 returns : tie.Need-returns
-returns c = rw (c .enum-told .given .1)
+returns c = rw (c .req-rn .ensures, c .before .enum-told .given .1)
 
 returns-2 : tie.Need-returns-2
 returns-2 c = rw (c .read .ensures, c .before .before .order .given .1)
@@ -42,7 +42,7 @@ returns-10 c = rw (c .permalock .ensures, c .before .before .order9 .given .1)
 pub decide-spec : {M : Type 1} → statement M
 decide-spec =
     tie.close
-    (tie.spec (search needs) (search needs) (search needs) (search needs) (search needs) (search needs)
+    (tie.spec (search needs) (search needs) (search needs) (search needs) (search needs) (search needs) (search needs)
     (search needs) (search needs) (search needs) (search needs) (search needs) (search needs) block-write-requires
     (search needs) (search needs) (search needs) (search needs) (search needs) permalock-requires returns returns-2
     returns-3 returns-4 returns-5 returns-6 returns-7 returns-8 returns-9 returns-10)

@@ -4,7 +4,6 @@ use denote.Ref.{now}
 use mathlib.Core.Path.{_∙_}
 use Rattle.image.specs.Layout.{layoutOf}
 use Rattle.replies.specs.declared.Reply.the-variants as reply
-use Rattle.states.specs.Commands.{linkOf}
 use Rattle.tag.proofs.Plans.{tell-any, silence-any}
 use borrow.Author.Needs.{needs}
 use Rattle.tag.proofs.acting.perform.Statement.{statement}
@@ -38,7 +37,7 @@ returns-3 c = let a = c .before .before .before .before .before .before .before 
 
 returns-4 : tie.Need-returns-4
 returns-4 c = let a = c .before .before .before .before .before .before .before .before .before .before .before .args in
-    rw (c .before .before .before .before .before .before .plan4 .given .1) (c .before .before .give-words .ensures ∙ tell-any (a .l) (layoutOf (now (a .image)) .work .at) (now (a .image)) (now (a .room)) (a .s) (reply.Words _ _ (linkOf (a .l .state) .handle)) _)
+    rw (c .before .before .before .before .before .before .plan4 .given .1) (c .before .before .give-words .ensures ∙ tell-any (a .l) (layoutOf (now (a .image)) .work .at) (now (a .image)) (now (a .room)) (a .s) (reply.Words _ _ (a .handle)) _)
 
 returns-5 : tie.Need-returns-5
 returns-5 c = rw (c .before .before .before .before .before .before .before .before .before .before .plan5 .given .1) (rw (c .before .before .before .before .before .before .before .work-at .ensures) at (c .before .before .before .before .store-word .ensures))
@@ -52,11 +51,7 @@ returns-7 c = rw (c .before .before .before .before .before .before .before .bef
 returns-8 : tie.Need-returns-8
 returns-8 c = rw (c .before .before .before .before .before .before .before .before .before .before .plan8 .given .1) (rw (c .before .before .before .before .before .before .before .work-at4 .ensures) at (c .before .before .before .before .store-mask .ensures))
 
-returns-9 : tie.Need-returns-9
-returns-9 c = let a = c .before .before .before .before .before .before .before .before .before .before .before .before .before .args in
-    rw (c .before .before .before .before .before .before .before .before .enum-told .given .1) ((rw (c .before .before .before .before .before .numbered .ensures, c .before .before .before .before .before .before .read-layout .ensures) at (c .before .before .give-number2 .ensures)) ∙ tell-any (a .l) (layoutOf (now (a .image)) .work .at) (now (a .image)) (now (a .room)) (a .s) (reply.Number (a .fresh)) _)
-
 pub perform-spec : {M : Type 1} → statement M
 perform-spec =
     tie.close
-    (tie.spec (λ c. search needs) (λ c κs. search needs) (λ c. search needs) (λ c κs. search needs) (λ c κs. search needs) (λ c. search needs) (λ c κs. search needs) (λ c. search needs) give-words-requires (λ c. search needs) (λ c κs. search needs) store-word-requires (λ c. search needs) (λ c κs. search needs) store-bits-requires (λ c. search needs) (λ c κs. search needs) store-zeros-requires (λ c. search needs) (λ c κs. search needs) store-mask-requires (λ c. search needs) (λ c κs. search needs) (λ c κs. search needs) (λ c κs. search needs) (λ c. search needs) (λ c. search needs) returns returns-2 (λ c. search needs) (λ c. search needs) returns-3 (λ c. search needs) (λ c. search needs) returns-4 (λ c. search needs) (λ c. search needs) returns-5 (λ c. search needs) (λ c. search needs) returns-6 (λ c. search needs) (λ c. search needs) returns-7 (λ c. search needs) (λ c. search needs) returns-8 (λ c. search needs) (λ c. search needs) returns-9)
+    (tie.spec (λ c. search needs) (λ c κs. search needs) (λ c. search needs) (λ c κs. search needs) (λ c κs. search needs) (λ c. search needs) (λ c κs. search needs) (λ c. search needs) give-words-requires (λ c. search needs) (λ c κs. search needs) store-word-requires (λ c. search needs) (λ c κs. search needs) store-bits-requires (λ c. search needs) (λ c κs. search needs) store-zeros-requires (λ c. search needs) (λ c κs. search needs) store-mask-requires (λ c. search needs) (λ c. search needs) returns returns-2 (λ c. search needs) (λ c. search needs) returns-3 (λ c. search needs) (λ c. search needs) returns-4 (λ c. search needs) (λ c. search needs) returns-5 (λ c. search needs) (λ c. search needs) returns-6 (λ c. search needs) (λ c. search needs) returns-7 (λ c. search needs) (λ c. search needs) returns-8)
