@@ -32,12 +32,15 @@ use Rattle.states.specs.declared.Half.{Half}
 use Rattle.states.specs.declared.Half.the-variants as half
 use Rattle.states.specs.declared.State.{State}
 use Rattle.plans.specs.declared.Plan.{Plan}
-use Rattle.plans.specs.Plans.{Placed, unless, killBy, planOf}
+use Rattle.plans.specs.declared.Plan.the-variants as plan
+use Rattle.plans.specs.Effects.{Effect, kill, access, placeOf}
+use Rattle.plans.specs.Steps.{Placed, orError, killBy, planOf}
 use Rattle.tag.specs.declared.Live.{Live}
 use Rattle.frames.specs.declared.Command.{Command}
 use Rattle.tag.specs.Result.{Result, result}
-use Rattle.states.specs.Commands.{asksOf, linkOf, isSecured, uncovered, wrongCommand, breaks, killCode, killReply, killWords, killed, placeOf}
-use Rattle.tag.specs.Steps.{kept, tellEnd, storeEnd, doneEnd, actOf, byCode, droppedWith, movedWith, orderOf, commandOf, Sound, performOf}
+use Rattle.states.specs.Commands.{asksOf, linkOf, isSecured, uncovered, wrongCommand, breaks}
+use Rattle.states.specs.Steps.{killCode, accessed}
+use Rattle.tag.specs.Steps.{kept, tellEnd, storeEnd, doneEnd, endBy, sceneOf, droppedWith, movedWith, orderOf, commandOf, Sound, performOf}
 
 -- a row that does not hold, and those after it
 none-row : (b : Bool) (e : ℕ) (rest : Code) → cond b (code.Error e) rest ≡ code.Nothing → (b ≡ false) × (rest ≡ code.Nothing)
@@ -202,9 +205,9 @@ module _ (l : Live) (h w : ℕ) (m room : List ℕ) (s : ℕ) (st : State) (ss :
 
 -- a plan that an order comes to can be performed
 module _ (w n : ℕ) where
-  unless-sound : (c : Code) (p : Plan) → (c ≡ code.Nothing → Sound w n p) → Sound w n (unless c p)
-  unless-sound code.Nothing p h = h refl
-  unless-sound (code.Error e) p h = tt
+  code-sound : (c : Code) (p : Plan) → (c ≡ code.Nothing → Sound w n p) → Sound w n (orError c p)
+  code-sound code.Nothing p h = h refl
+  code-sound (code.Error e) p h = tt
 
 module _ (y : Layout) (m f : List ℕ) (st : State) (g : Header y m) where
   kill-sound : (h : ℕ) (half : Half) → Sound (y .work .at) (length m) (killBy y st h half)
@@ -214,16 +217,16 @@ module _ (y : Layout) (m f : List ℕ) (st : State) (g : Header y m) where
 
   pub plan-sound : (fresh : ℕ) (o : Order) → Placed o → Sound (y .work .at) (length m) (planOf y m f fresh st o)
   plan-sound fresh order.ReqRn q = tt
-  plan-sound fresh (order.Read s) q = unless-sound _ _ (readCode y m (isSecured st) s) _ (read-fits y m g m (isSecured st) s)
-  plan-sound fresh (order.Write s w) q = unless-sound _ _ (writeCode y m (isSecured st) s (uncovered (linkOf st .cover) w)) _ (word-held y m g m (isSecured st) s _)
-  plan-sound fresh (order.Kill h) q = unless-sound _ _ (killCode y m (linkOf st .half)) _ (λ e. kill-sound h (linkOf st .half))
-  plan-sound fresh (order.Lock mask action) q = unless-sound _ _ (lockCode y m mask action) _ (λ e. lock-held y m g)
+  plan-sound fresh (order.Read s) q = code-sound _ _ (readCode y m (isSecured st) s) _ (read-fits y m g m (isSecured st) s)
+  plan-sound fresh (order.Write s w) q = code-sound _ _ (writeCode y m (isSecured st) s (uncovered (linkOf st .cover) w)) _ (word-held y m g m (isSecured st) s _)
+  plan-sound fresh (order.Kill h) q = code-sound _ _ (killCode y m (linkOf st .half)) _ (λ e. kill-sound h (linkOf st .half))
+  plan-sound fresh (order.Lock mask action) q = code-sound _ _ (lockCode y m mask action) _ (λ e. lock-held y m g)
   plan-sound fresh (order.Access h) q = tt
-  plan-sound fresh (order.BlockWrite s p) q = unless-sound _ _ (writeCode y m (isSecured st) s (fieldAt f (p + 16 * (1 - s .pointer)) 16)) _ (λ e. (words-held y m g m (isSecured st) s _ e, q))
-  plan-sound fresh (order.BlockErase s) q = unless-sound _ _ (writeCode y m (isSecured st) s 0) _ (words-held y m g m (isSecured st) s 0)
-  plan-sound fresh (order.ReadPermalock r s) q = unless-sound _ _ (permaReadCode y s) _ (read-perma-fits y m g m (isSecured st) s)
+  plan-sound fresh (order.BlockWrite s p) q = code-sound _ _ (writeCode y m (isSecured st) s (fieldAt f (p + 16 * (1 - s .pointer)) 16)) _ (λ e. (words-held y m g m (isSecured st) s _ e, q))
+  plan-sound fresh (order.BlockErase s) q = code-sound _ _ (writeCode y m (isSecured st) s 0) _ (words-held y m g m (isSecured st) s 0)
+  plan-sound fresh (order.ReadPermalock r s) q = code-sound _ _ (permaReadCode y s) _ (read-perma-fits y m g m (isSecured st) s)
   plan-sound fresh (order.Permalock r s p) q =
-      unless-sound _ _ (permaCode y m s f p) _ (λ e. let h = mask-held y m g m (isSecured st) s f p e in (h .0, q, h .1))
+      code-sound _ _ (permaCode y m s f p) _ (λ e. let h = mask-held y m g m (isSecured st) s f p e in (h .0, q, h .1))
 
 -- and comes to what the table says of the order
 module _ (l : Live) (y : Layout) (m f : List ℕ) (fresh : ℕ) (room : List ℕ) (s : ℕ) where
@@ -233,30 +236,38 @@ module _ (l : Live) (y : Layout) (m f : List ℕ) (fresh : ℕ) (room : List ℕ
   perform : Plan → Result
   perform p = performOf l handle y m f room s p
 
-  unless-performs : (o : Order) (c : Code) (p : Plan) → perform p ≡ actOf l y m f fresh room s o → perform (unless c p) ≡ byCode c l y m f fresh room s o
-  unfolding handle perform
-  unless-performs o code.Nothing p h = h
-  unless-performs o (code.Error e) p h = refl
+  ends : Code → Effect → Result
+  ends c x = endBy c l (y .work .at) m room s x
 
-  kill-performs : (h : ℕ) (a : Half)
-      → perform (killBy y (l .state) h a) ≡ doneEnd l (y .work .at) m room s (killReply (linkOf (l .state) .handle) a) (killed (l .state) h a) (killWords y a)
-  unfolding handle perform
-  kill-performs h half.Nothing = refl
+  code-performs : (c : Code) (p : Plan) (x : Effect) → perform p ≡ doneEnd l (y .work .at) m room s (x .reply) (x .state) (x .words) → perform (orError c p) ≡ ends c x
+  unfolding handle perform ends
+  code-performs code.Nothing p x h = h
+  code-performs (code.Error e) p x h = refl
+
+  kill-performs : (h : ℕ) (a : Half) → perform (orError (killCode y m a) (killBy y (l .state) h a)) ≡ (let x = kill (sceneOf l y m f fresh) h a in ends (x .code) x)
+  unfolding handle perform ends
+  kill-performs h half.Nothing = code-performs (killCode y m half.Nothing) _ (kill (sceneOf l y m f fresh) h half.Nothing) refl
   kill-performs h (half.Access up) = refl
   kill-performs h (half.Kill up) = refl
 
+  access-performs : (h : ℕ) (a : Half) → perform (plan.Number (accessed (l .state) h a) handle) ≡ (let x = access (sceneOf l y m f fresh) h a in ends (x .code) x)
+  unfolding handle perform ends
+  access-performs h half.Nothing = refl
+  access-performs h (half.Access up) = refl
+  access-performs h (half.Kill up) = refl
+
   pub plan-performs : (o : Order) → performOf l (linkOf (l .state) .handle) y m f room s (planOf y m f fresh (l .state) o) ≡ orderOf l y m f fresh room s o
-  unfolding handle perform actOf
+  unfolding handle perform ends
   plan-performs order.ReqRn = refl
-  plan-performs (order.Read p) = unless-performs (order.Read p) (readCode y m (isSecured (l .state)) p) _ refl
-  plan-performs (order.Write p w) = unless-performs (order.Write p w) (writeCode y m (isSecured (l .state)) p (uncovered (linkOf (l .state) .cover) w)) _ refl
-  plan-performs (order.Kill h) = unless-performs (order.Kill h) (killCode y m (linkOf (l .state) .half)) _ (kill-performs h (linkOf (l .state) .half))
-  plan-performs (order.Lock mask action) = unless-performs (order.Lock mask action) (lockCode y m mask action) _ refl
-  plan-performs (order.Access h) = refl
-  plan-performs (order.BlockWrite p b) = unless-performs (order.BlockWrite p b) (writeCode y m (isSecured (l .state)) p (fieldAt f (b + 16 * (1 - p .pointer)) 16)) _ refl
-  plan-performs (order.BlockErase p) = unless-performs (order.BlockErase p) (writeCode y m (isSecured (l .state)) p 0) _ refl
-  plan-performs (order.ReadPermalock r p) = unless-performs (order.ReadPermalock r p) (permaReadCode y p) _ refl
-  plan-performs (order.Permalock r p b) = unless-performs (order.Permalock r p b) (permaCode y m p f b) _ refl
+  plan-performs (order.Read p) = code-performs (readCode y m (isSecured (l .state)) p) _ _ refl
+  plan-performs (order.Write p w) = code-performs (writeCode y m (isSecured (l .state)) p (uncovered (linkOf (l .state) .cover) w)) _ _ refl
+  plan-performs (order.Kill h) = kill-performs h (linkOf (l .state) .half)
+  plan-performs (order.Lock mask action) = code-performs (lockCode y m mask action) _ _ refl
+  plan-performs (order.Access h) = access-performs h (linkOf (l .state) .half)
+  plan-performs (order.BlockWrite p b) = code-performs (writeCode y m (isSecured (l .state)) p (fieldAt f (b + 16 * (1 - p .pointer)) 16)) _ _ refl
+  plan-performs (order.BlockErase p) = code-performs (writeCode y m (isSecured (l .state)) p 0) _ _ refl
+  plan-performs (order.ReadPermalock r p) = code-performs (permaReadCode y p) _ _ refl
+  plan-performs (order.Permalock r p b) = code-performs (permaCode y m p f b) _ _ refl
 
 -- a command's three ways: wrong, broken, or by its order
 module _ (l : Live) (y : Layout) (m f : List ℕ) (fresh : ℕ) (room : List ℕ) (s : ℕ) (c : Command) where

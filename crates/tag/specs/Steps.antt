@@ -34,7 +34,8 @@ use Rattle.tag.specs.declared.Answer.the-variants as answer
 use Rattle.tag.specs.declared.Outcome.{Outcome}
 use Rattle.tag.specs.Session.{offSession}
 use Rattle.tag.specs.Result.{Result, result}
-use Rattle.states.specs.Commands.{asksOf, linkOf, isSecured, isKilled, wrongCommand, breaks, codeOf, used, stateAfter, replyAfter, wordsAfter}
+use Rattle.states.specs.Commands.{asksOf, linkOf, isKilled, wrongCommand, breaks, used}
+use Rattle.plans.specs.Effects.{Scene, Effect, effectOf}
 use Rattle.tag.specs.Table.{fits, movedTo}
 
 -- an Off session, after so many stores
@@ -143,19 +144,16 @@ performOf l h y m f room s (plan.Bits st at n p) = storedEnd l h (y .work .at) m
 performOf l h y m f room s (plan.Zeros st at n) = storedEnd l h (y .work .at) m room s st (below (λ j. store (at + j) 0) n)
 performOf l h y m f room s (plan.Mask st at n p) = storedEnd l h (y .work .at) m room s st (below (orTo m f at p) n)
 
--- an order that no refusal stops
-unfoldable pub actOf : Live → Layout → List ℕ → List ℕ → ℕ → List ℕ → ℕ → Order → Result
-actOf l y m f fresh room s o =
-    let k = linkOf (l .state) in
-    doneEnd l (y .work .at) m room s (replyAfter y fresh k o) (stateAfter y m fresh (l .state) o) (wordsAfter y m k f o)
+-- an order that no refusal stops, by its error code
+abbrev pub endBy : Code → Live → ℕ → List ℕ → List ℕ → ℕ → Effect → Result
+endBy code.Nothing l w m room s x = doneEnd l w m room s (x .reply) (x .state) (x .words)
+endBy (code.Error e) l w m room s x = errorEnd l (linkOf (l .state) .handle) m room e
 
--- by its error code
-abbrev pub byCode : Code → Live → Layout → List ℕ → List ℕ → ℕ → List ℕ → ℕ → Order → Result
-byCode code.Nothing l y m f fresh room s o = actOf l y m f fresh room s o
-byCode (code.Error e) l y m f fresh room s o = errorEnd l (linkOf (l .state) .handle) m room e
+abbrev pub sceneOf : Live → Layout → List ℕ → List ℕ → ℕ → Scene
+sceneOf l y m f fresh = record { layout = y; image = m; state = l .state; frame = f; fresh = fresh }
 
 abbrev pub orderOf : Live → Layout → List ℕ → List ℕ → ℕ → List ℕ → ℕ → Order → Result
-orderOf l y m f fresh room s o = byCode (codeOf y m (isSecured (l .state)) (linkOf (l .state)) f o) l y m f fresh room s o
+orderOf l y m f fresh room s o = let x = effectOf (sceneOf l y m f fresh) o in endBy (x .code) l (y .work .at) m room s x
 
 abbrev pub droppedWith : Live → Outcome
 droppedWith l = record { answer = answer.Password; session = movedTo l state.Arbitrate; reply = 0; stores = 0; value = 0 }

@@ -28,7 +28,8 @@ use Rattle.tag.specs.declared.Power.the-variants as power
 use Rattle.tag.specs.declared.Session.{Session}
 use Rattle.tag.specs.Session.{offSession, on, clear}
 use Rattle.tag.specs.Result.{Result, leaves}
-use Rattle.states.specs.Commands.{asksOf, linkOf, isSecured, wrong, breaks, codeOf, used, stateAfter, replyAfter, wordsAfter}
+use Rattle.states.specs.Commands.{asksOf, linkOf, wrong, breaks, used}
+use Rattle.plans.specs.Effects.{Scene, Effect, does, effectOf}
 
 -- what a frame call is handed
 pub record Input : Type 0 where
@@ -77,26 +78,17 @@ broken i heard.Malformed = false
 broken i heard.Nak = false
 broken i (heard.Said c) = let k = linkOf (stateOf i) in breaks (layout i) (i .image) k (k .half) (asksOf (c .order) .part)
 
-abbrev pub errorCode : Input → Heard → Code
-errorCode i heard.Malformed = code.Nothing
-errorCode i heard.Nak = code.Nothing
-errorCode i (heard.Said c) = codeOf (layout i) (i .image) (isSecured (stateOf i)) (linkOf (stateOf i)) (i .frame) (c .order)
+-- what was heard comes to; NAK: Arbitrate, and no reply
+abbrev pub scene : Input → Scene
+scene i = record { layout = layout i; image = i .image; state = stateOf i; frame = i .frame; fresh = i .fresh }
 
--- NAK: Arbitrate, and no reply
-abbrev pub newState : Input → Heard → State
-newState i heard.Malformed = stateOf i
-newState i heard.Nak = state.Arbitrate
-newState i (heard.Said c) = stateAfter (layout i) (i .image) (i .fresh) (stateOf i) (c .order)
+abbrev pub comes : Input → Heard → Effect
+comes i heard.Malformed = does (stateOf i) reply.Silence []
+comes i heard.Nak = does state.Arbitrate reply.Silence []
+comes i (heard.Said c) = effectOf (scene i) (c .order)
 
-abbrev pub doneReply : Input → Heard → Reply
-doneReply i heard.Malformed = reply.Silence
-doneReply i heard.Nak = reply.Silence
-doneReply i (heard.Said c) = replyAfter (layout i) (i .fresh) (linkOf (stateOf i)) (c .order)
-
-abbrev pub doneWords : Input → Heard → List Store
-doneWords i heard.Malformed = []
-doneWords i heard.Nak = []
-doneWords i (heard.Said c) = wordsAfter (layout i) (i .image) (linkOf (stateOf i)) (i .frame) (c .order)
+abbrev pub effect : Input → Effect
+effect i = comes i (said i)
 
 abbrev pub isError : Code → Bool
 isError code.Nothing = false
@@ -108,10 +100,10 @@ replyOr code.Nothing handle r = r
 replyOr (code.Error e) handle r = reply.Error e handle
 
 abbrev pub replyOf : Input → Reply
-replyOf i = replyOr (errorCode i (said i)) (linkOf (stateOf i) .handle) (doneReply i (said i))
+replyOf i = replyOr (effect i .code) (linkOf (stateOf i) .handle) (effect i .reply)
 
 abbrev pub storesOf : Input → List Store
-storesOf i = changeStores (layout i .work .at) (doneWords i (said i))
+storesOf i = changeStores (layout i .work .at) (effect i .words)
 
 abbrev pub fits : Reply → List ℕ → Bool
 fits r room = not (ltb (length room) (replyBytes r))
@@ -161,14 +153,14 @@ rows i =
     ∷ (everything i 8, checksumWrong (i .frame) (i .bits) (said i))
     ∷ (everything i 9, wrong (stateOf i) (said i))
     ∷ (dropped i, broken i (said i))
-    ∷ (replied i 10 (used (stateOf i)) [], isError (errorCode i (said i)) && fits (replyOf i) (i .room))
+    ∷ (replied i 10 (used (stateOf i)) [], isError (effect i .code) && fits (replyOf i) (i .room))
     ∷ (everything i 4, not (fits (replyOf i) (i .room)))
     ∷ (cut i, ltb (i .power) (length (storesOf i)))
     ∷ []
 
 -- the outcome of a frame
 unfoldable pub frameOf : Input → Result
-frameOf i = first (rows i) (replied i 0 (newState i (said i)) (storesOf i))
+frameOf i = first (rows i) (replied i 0 (effect i .state) (storesOf i))
 
 abbrev pub input : Session → List ℕ → List ℕ → ℕ → ℕ → List ℕ → ℕ → Input
 input session image frame bits fresh room power =

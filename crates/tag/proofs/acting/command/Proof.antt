@@ -1,18 +1,14 @@
 -- `tag::acting::command` meets its contract: wrong, broken, Req_RN straight to its end, or decided and performed. Assumes nothing.
 use Prim.Native.Nat.{ℕ}
 use mathlib.Core.Path.{_≡_, sym, ap, _∙_}
-use mathlib.Core.Bool.{Bool, false}
 use denote.Ref.{now}
-use borrow.Author.Tests.{eq-eqb, ne-eqb}
 use Rattle.image.specs.Layout.{layoutOf}
 use Rattle.frames.specs.declared.Order.{Order}
 use Rattle.frames.specs.declared.Order.the-variants as order
 use Rattle.replies.specs.declared.Reply.the-variants as reply
 use Rattle.states.specs.Commands.{asksOf, linkOf, wrongBy, breaks, numbered}
 use Rattle.states.proofs.Gates.{gate-wrong, gate-broken, gate-open, number-only, passes-handle}
-use Rattle.plans.specs.declared.Plan.{Plan}
-use Rattle.plans.specs.Plans.{planOf}
-use Rattle.tag.specs.Result.{Result}
+use Rattle.plans.specs.Steps.{planOf}
 use Rattle.tag.specs.Steps.{orderOf, performOf}
 use Rattle.tag.proofs.Plans.{tell-any, command-wrong, command-broken, command-order, plan-sound, plan-performs, good-long}
 use borrow.Author.Needs.{needs}

@@ -1,4 +1,4 @@
--- What each command comes to that the session lets pass (RULES 3.12 to 3.22), one after the other. Assumes nothing.
+-- The plans of orders as the code makes them; Effects says what they must come to. Assumes nothing.
 use Prim.Native.Nat.{ℕ, _+_, _-_, _*_, _≤_}
 use mathlib.Core.List.{List}
 use Rattle.bits.specs.Bits.{fieldAt}
@@ -13,23 +13,28 @@ use Rattle.rights.specs.Rights.{bankOf, spanWords, readCode, writeCode, lockedT
 use Rattle.states.specs.declared.Half.{Half}
 use Rattle.states.specs.declared.Half.the-variants as half
 use Rattle.states.specs.declared.State.{State}
-use Rattle.states.specs.Commands.{linkOf, isSecured, uncovered, killCode, used, numbered, accessed, killed, placeOf}
+use Rattle.states.specs.Commands.{linkOf, isSecured, uncovered, used, numbered}
+use Rattle.states.specs.Steps.{killCode, accessed, killed}
+use Rattle.plans.specs.Effects.{placeOf}
 use Rattle.plans.specs.declared.Plan.{Plan}
 use Rattle.plans.specs.declared.Plan.the-variants as plan
 
 -- an error code, or the plan
-abbrev pub unless : Code → Plan → Plan
-unless code.Nothing p = p
-unless (code.Error e) p = plan.Error e
+abbrev pub orError : Code → Plan → Plan
+orError code.Nothing p = p
+orError (code.Error e) p = plan.Error e
+
+abbrev pub reqRnPlan : Layout → List ℕ → State → ℕ → Plan
+reqRnPlan y m st fresh = plan.Number (numbered y m fresh st) fresh
 
 abbrev pub readPlan : Layout → List ℕ → State → Span → Plan
-readPlan y m st s = unless (readCode y m (isSecured st) s) (plan.Words (used st) (placeOf y s) (spanWords (bankOf y (s .bank)) s))
+readPlan y m st s = orError (readCode y m (isSecured st) s) (plan.Words (used st) (placeOf y s) (spanWords (bankOf y (s .bank)) s))
 
 abbrev pub writePlan : Layout → List ℕ → State → Span → ℕ → Plan
 writePlan y m st s w =
-    let v = uncovered (linkOf st .cover) w in unless (writeCode y m (isSecured st) s v) (plan.Word (used st) v (placeOf y s))
+    let v = uncovered (linkOf st .cover) w in orError (writeCode y m (isSecured st) s v) (plan.Word (used st) v (placeOf y s))
 
--- the first half waits and is answered with the handle; right Kill stores killed as 1
+-- a half of a Kill, by the half that waits
 abbrev pub killBy : Layout → State → ℕ → Half → Plan
 killBy y st h half.Nothing = plan.Number (killed st h half.Nothing) (linkOf st .handle)
 killBy y st h (half.Access up) = plan.Silent (killed st h (half.Access up))
@@ -39,31 +44,27 @@ abbrev pub killHalf : Layout → State → ℕ → Plan
 killHalf y st h = killBy y st h (linkOf st .half)
 
 abbrev pub killPlan : Layout → List ℕ → State → ℕ → Plan
-killPlan y m st h = unless (killCode y m (linkOf st .half)) (killHalf y st h)
+killPlan y m st h = orError (killCode y m (linkOf st .half)) (killHalf y st h)
 
 abbrev pub lockPlan : Layout → List ℕ → State → ℕ → ℕ → Plan
 lockPlan y m st mask action =
-    unless (lockCode y m mask action) (plan.Word (used st) (lockedTo (lockWord y m) mask action) (y .status .at))
+    orError (lockCode y m mask action) (plan.Word (used st) (lockedTo (lockWord y m) mask action) (y .status .at))
 
 abbrev pub accessPlan : State → ℕ → Plan
 accessPlan st h = plan.Number (accessed st h (linkOf st .half)) (linkOf st .handle)
 
 abbrev pub blockWritePlan : Layout → List ℕ → List ℕ → State → Span → ℕ → Plan
 blockWritePlan y m f st s p =
-    unless (writeCode y m (isSecured st) s (fieldAt f (p + 16 * (1 - s .pointer)) 16)) (plan.Bits (used st) (placeOf y s) (s .count) p)
+    orError (writeCode y m (isSecured st) s (fieldAt f (p + 16 * (1 - s .pointer)) 16)) (plan.Bits (used st) (placeOf y s) (s .count) p)
 
 abbrev pub blockErasePlan : Layout → List ℕ → State → Span → Plan
-blockErasePlan y m st s = unless (writeCode y m (isSecured st) s 0) (plan.Zeros (used st) (placeOf y s) (s .count))
+blockErasePlan y m st s = orError (writeCode y m (isSecured st) s 0) (plan.Zeros (used st) (placeOf y s) (s .count))
 
 abbrev pub readPermalockPlan : Layout → State → Span → Plan
-readPermalockPlan y st s = unless (permaReadCode y s) (plan.Words (used st) (y .perma .at + s .pointer) (s .count))
+readPermalockPlan y st s = orError (permaReadCode y s) (plan.Words (used st) (y .perma .at + s .pointer) (s .count))
 
 abbrev pub permalockPlan : Layout → List ℕ → List ℕ → State → Span → ℕ → Plan
-permalockPlan y m f st s p = unless (permaCode y m s f p) (plan.Mask (used st) (y .perma .at + s .pointer) (s .count) p)
-
--- the fresh word becomes the handle, or the cover number
-abbrev pub reqRnPlan : Layout → List ℕ → State → ℕ → Plan
-reqRnPlan y m st fresh = plan.Number (numbered y m fresh st) fresh
+permalockPlan y m f st s p = orError (permaCode y m s f p) (plan.Mask (used st) (y .perma .at + s .pointer) (s .count) p)
 
 abbrev pub planOf : Layout → List ℕ → List ℕ → ℕ → State → Order → Plan
 planOf y m f fresh st order.ReqRn = reqRnPlan y m st fresh
