@@ -34,11 +34,11 @@ use Rattle.states.specs.declared.State.{State}
 use Rattle.states.specs.declared.State.the-variants as state
 use Rattle.tag.specs.declared.Session.{Session}
 use Rattle.tag.specs.Session.{offSession, on}
-use Rattle.tag.specs.Result.{Result, leaves}
+use Rattle.tag.specs.Result.{Result, leaves, gives}
 use Rattle.states.specs.Commands.{asksOf, linkOf, isCovered, isKilled, wrong, wrongCommand, breaks}
 use Rattle.plans.specs.Effects.{Effect, effectOf}
 use Rattle.tag.specs.Table.{Input, input, malformed, checksumWrong, broken, comes, effect, isError, replyOr, replyOf, storesOf, fits, replied, rows, frameOf, admitOf}
-use Rattle.tag.specs.Port.{badCount, badData, refusals, transferred, withKilled, withUnwritten, someUnwritten, writtenWords, readBits, portWords, askOf, releaseOf, registerOf, readOf, writeOf}
+use Rattle.tag.specs.Port.{badCount, badData, refusals, withKilled, withUnwritten, someUnwritten, writtenWords, readBits, portWords, askOf, releaseOf, registerOf, readOf, writeOf}
 use Rattle.demands.specs.Calls.{Idle}
 use Rattle.demands.specs.Commands.{Air, link, done, answer, Does, Radio, Engine, Demand2}
 use Rattle.demands.proofs.Rows.{Rows, None, none-first}
@@ -236,20 +236,20 @@ module _ (m : List ℕ) (st : State) (r : Register) (idle : Idle (layoutOf m) m)
 
   -- a read past its refusals, of a tag that is killed or is not
   engine-read : (k : Bool) (at n : ℕ) (room : List ℕ) → isKilled st ≡ k → 1 ≤ n → n ≤ 255 → at + n ≤ layoutOf m .user .words → 2 * n ≤ length room
-      → readOf (on st true r) m at n room ≡ transferred 0 (on st true (cond k (withKilled r) r)) (16 * n) 0 m (packed (readBits (layoutOf m) m k at n) room)
+      → readOf (on st true r) m at n room ≡ gives 0 (on st true (cond k (withKilled r) r)) (16 * n) 0 m (packed (readBits (layoutOf m) m k at n) room)
   unfolding readOf holder
   engine-read k at n room e a b c d =
       let row : Rows = (leaves 4 (on st true r) m room, ltb (length room) (2 * n)) ∷ [] in
       none-first (refusals holder m room (badCount (layoutOf m) at n) ++ row) _
       (past room (badCount (layoutOf m) at n) row (count-good at n a b c) (le-ltb (length room) (2 * n) d, tt))
-      ∙ ap (λ (t : Bool). transferred 0 (on st true (cond t (withKilled r) r)) (16 * n) 0 m (packed (readBits (layoutOf m) m t at n) room)) e
+      ∙ ap (λ (t : Bool). gives 0 (on st true (cond t (withKilled r) r)) (16 * n) 0 m (packed (readBits (layoutOf m) m t at n) room)) e
 
   -- a write past its refusals
   module _ (at : ℕ) (d : List ℕ) (n s : ℕ) (size : length d ≡ 2 * n) (a : 1 ≤ n) (b : n ≤ 255) (c : at + n ≤ layoutOf m .user .words) (few : n ≤ pairsIn (layoutOf m)) where
     written : Bool → List Store → Result
     written k ws =
         let ss = changeStores (layoutOf m .work .at) ws in
-        transferred 0 (on st true (cond k (withKilled r) (withUnwritten (someUnwritten (layoutOf m) m at n) r))) 0 (length ss) (after m ss) []
+        gives 0 (on st true (cond k (withKilled r) (withUnwritten (someUnwritten (layoutOf m) m at n) r))) 0 (length ss) (after m ss) []
 
     engine-write : (k : Bool) (ws : List Store) → isKilled st ≡ k → portWords (layoutOf m) m k at d ≡ ws → length (changeStores (layoutOf m .work .at) ws) ≤ s
         → writeOf (on st true r) m at d s ≡ written k ws
@@ -260,12 +260,12 @@ module _ (m : List ℕ) (st : State) (r : Register) (idle : Idle (layoutOf m) m)
         let even : length d % 2 ≡ 0 = omega (arith, size) in
         let words : portWords y m (isKilled st) at d ≡ ws = ap (λ (t : Bool). portWords y m t at d) e ∙ f in
         let stores = changeStores (y .work .at) (portWords y m (isKilled st) at d) in
-        let row : Rows = (transferred 11 offSession 0 s (after m (take s stores)) [], ltb s (length stores)) ∷ [] in
+        let row : Rows = (gives 11 offSession 0 s (after m (take s stores)) [], ltb s (length stores)) ∷ [] in
         let bad : badData y at d ≡ false = rw (eq-eqb (length d % 2) 0 even, half, count-good at n a b c, le-ltb (pairsIn y) n few) in
         none-first (refusals holder m [] (badData y at d) ++ row) _
         (past [] (badData y at d) row bad (le-ltb s (length stores) (subst (λ (x : List Store). length (changeStores (y .work .at) x) ≤ s) (sym words) l), tt))
-        ∙ ap₂ (λ (t : Bool) (x : List Store). transferred 0 (on st true (cond t (withKilled r) (withUnwritten (someUnwritten y m at (length d / 2)) r))) 0 (length (changeStores (y .work .at) x)) (after m (changeStores (y .work .at) x)) []) e words
-        ∙ ap (λ (x : ℕ). transferred 0 (on st true (cond k (withKilled r) (withUnwritten (someUnwritten y m at x) r))) 0 (length (changeStores (y .work .at) ws)) (after m (changeStores (y .work .at) ws)) []) half
+        ∙ ap₂ (λ (t : Bool) (x : List Store). gives 0 (on st true (cond t (withKilled r) (withUnwritten (someUnwritten y m at (length d / 2)) r))) 0 (length (changeStores (y .work .at) x)) (after m (changeStores (y .work .at) x)) []) e words
+        ∙ ap (λ (x : ℕ). gives 0 (on st true (cond k (withKilled r) (withUnwritten (someUnwritten y m at x) r))) 0 (length (changeStores (y .work .at) ws)) (after m (changeStores (y .work .at) ws)) []) half
 
   engine : Engine (layoutOf m) m st r
   unfolding admitOf askOf releaseOf registerOf written

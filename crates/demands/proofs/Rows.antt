@@ -26,12 +26,12 @@ use Rattle.rights.specs.declared.Code.{Code}
 use Rattle.rights.specs.declared.Code.the-variants as code
 use Rattle.stores.specs.Stores.{changeStores}
 use Rattle.tag.specs.declared.Session.{Session}
-use Rattle.tag.specs.Result.{Result}
+use Rattle.tag.specs.Result.{Result, gives}
 use Rattle.states.specs.Commands.{isKilled, linkOf}
 use Rattle.plans.specs.Effects.{Effect}
 use Rattle.tag.specs.Session.{offSession}
 use Rattle.tag.specs.Table.{Input, input, isOff, liveOf, broken, comes, effect, replyOr, isError, replyOf, fits, storesOf, replied, cut, rows, frameOf}
-use Rattle.tag.specs.Port.{badCount, badData, portWords, refusals, transferred, registerTo, withKilled, withUnwritten, someUnwritten, writeOf}
+use Rattle.tag.specs.Port.{badCount, badData, portWords, refusals, registerTo, withKilled, withUnwritten, someUnwritten, writeOf}
 use Rattle.tag.proofs.Plans.{none-or}
 use Rattle.demands.specs.Calls.{Tag, answerOf}
 use Rattle.demands.specs.Demands.{Storing, byRadio, byPort, told}
@@ -259,12 +259,12 @@ module _ (v : Session) (m : List ℕ) (at : ℕ) (d : List ℕ) (g : Good (layou
   stores = changeStores (y .work .at) port-words
 
   lost : ℕ → Result
-  lost s = transferred 11 offSession 0 s (after m (take s stores)) []
+  lost s = gives 11 offSession 0 s (after m (take s stores)) []
 
   made : Result
   made =
       let l = liveOf (v .power) in
-      transferred 0 (registerTo l (cond killed (withKilled (l .register)) (withUnwritten (someUnwritten y m at (length d / 2)) (l .register)))) 0 (length stores) (after m stores) []
+      gives 0 (registerTo l (cond killed (withKilled (l .register)) (withUnwritten (someUnwritten y m at (length d / 2)) (l .register)))) 0 (length stores) (after m stores) []
 
   write-split : (s : ℕ) → writeOf v m at d s ≡ first before (cond (ltb s (length stores)) (lost s) made)
   unfolding writeOf y killed port-words before stores lost made

@@ -26,12 +26,12 @@ use Rattle.stores.specs.Stores.{changeStores, powerStores}
 use Rattle.states.specs.declared.State.the-variants as state
 use Rattle.tag.specs.declared.Session.{Session}
 use Rattle.tag.specs.Session.{offSession, newSession}
-use Rattle.tag.specs.Result.{Result, leaves}
+use Rattle.tag.specs.Result.{Result, leaves, gives}
 use Rattle.tag.specs.One.{one-outcome}
-use Rattle.states.specs.Commands.{linkOf, isKilled, used}
+use Rattle.states.specs.Commands.{linkOf, isKilled, used, isArbitrate, isLinked}
 use Rattle.tag.specs.Power.{poweredTo, firstIn, started, powerUpOf}
-use Rattle.tag.specs.Table.{Input, input, stateOf, liveOf, isOff, isArbitrate, isError, effect, replyOr, replyOf, fits, storesOf, movedTo, dropped, replied, rows, frameOf, answered, admitOf}
-use Rattle.tag.specs.Port.{isLinked, heldTo, told, askOf, releaseOf, registerOf, badCount, badData, readBits, portWords, someUnwritten, registerTo, withKilled, withUnwritten, transferred, refusals, readOf, writeOf}
+use Rattle.tag.specs.Table.{Input, input, stateOf, liveOf, isOff, isError, effect, replyOr, replyOf, fits, storesOf, movedTo, dropped, replied, rows, frameOf, answered, admitOf}
+use Rattle.tag.specs.Port.{heldTo, told, askOf, releaseOf, registerOf, badCount, badData, readBits, portWords, someUnwritten, registerTo, withKilled, withUnwritten, refusals, readOf, writeOf}
 use Rattle.demands.specs.Calls.{Call, powerUp, admit, frame, ask, release, register, read, write, Tag, answerOf, sessionIn, imageIn, roomIn, powerIn, storesIn}
 use Rattle.demands.specs.Demands.{refuses, Tabled, Demand1}
 use Rattle.demands.proofs.Rows.{Each, first-each}
@@ -195,8 +195,8 @@ module _ (v : Session) (m : List ℕ) where
       let killed = isKilled (l .state) in
       let stores = changeStores (y .work .at) (portWords y m killed at d) in
       first-each (Tabled tag-of c)
-      (refusals v m [] (badData y at d) ++ ((transferred 11 offSession 0 s (after m (take s stores)) [], ltb s (length stores)) ∷ []))
-      (transferred 0 (registerTo l (cond killed (withKilled (l .register)) (withUnwritten (someUnwritten y m at (length d / 2)) (l .register)))) 0 (length stores) (after m stores) [])
+      (refusals v m [] (badData y at d) ++ ((gives 11 offSession 0 s (after m (take s stores)) [], ltb s (length stores)) ∷ []))
+      (gives 0 (registerTo l (cond killed (withKilled (l .register)) (withUnwritten (someUnwritten y m at (length d / 2)) (l .register)))) 0 (length stores) (after m stores) [])
       (λ e. refusal tag-of c 1 refl, (λ e. refusal tag-of c 2 refl, (λ e. refusal tag-of c 3 refl, (λ e. refusal tag-of c 5 refl, (λ e. refusal tag-of c 6 refl, (λ e. refusal tag-of c 13 refl, (λ e. lost-answer tag-of c (ltb-true _ _ e), tt)))))))
       (zero-answer tag-of c _ refl (λ q. refl))
 

@@ -35,11 +35,11 @@ use Rattle.tag.specs.declared.Register.{Register}
 use Rattle.states.specs.declared.State.{State}
 use Rattle.states.specs.declared.State.the-variants as state
 use Rattle.tag.specs.Session.{on, clear}
-use Rattle.tag.specs.Result.{Result, leaves}
-use Rattle.states.specs.Commands.{accessWord, killWord, zeroKill, zeroAccess, isKilled}
+use Rattle.tag.specs.Result.{Result, leaves, gives}
+use Rattle.states.specs.Commands.{accessWord, killWord, zeroKill, zeroAccess, isKilled, isLinked}
 use Rattle.tag.specs.Power.{poweredTo, powerUpOf}
 use Rattle.tag.specs.Table.{input, frameOf, answered, admitOf}
-use Rattle.tag.specs.Port.{isLinked, numberIn, writtenWords, someUnwritten, transferred, askOf, releaseOf, registerOf, readOf, writeOf, withUnwritten, withKilled}
+use Rattle.tag.specs.Port.{numberIn, writtenWords, someUnwritten, askOf, releaseOf, registerOf, readOf, writeOf, withUnwritten, withKilled}
 use Rattle.demands.specs.Calls.{Idle}
 
 -- what a frame call is handed beside the session: image, frame, bit count, fresh word, room and power
@@ -154,14 +154,14 @@ pub record Engine (y : Layout) (m : List ℕ) (st : State) (r : Register) : Type
       ≡ record { number = 0; session = on st true clear; reply = 0; stores = 0; value = numberIn r; image = []; room = [] }
   -- the words of USER, high byte first
   pub read : (at n : ℕ) (room : List ℕ) → isKilled st ≡ false → 1 ≤ n → n ≤ 255 → at + n ≤ y .user .words → 2 * n ≤ length room
-      → readOf (on st true r) m at n room ≡ transferred 0 (on st true r) (16 * n) 0 m (packed (wordsBits m (y .user .at + at) n) room)
+      → readOf (on st true r) m at n room ≡ gives 0 (on st true r) (16 * n) 0 m (packed (wordsBits m (y .user .at + at) n) room)
   -- the writable words, as one change; bit 1 where some word wasn't written
   pub write : (at : ℕ) (d : List ℕ) (n s : ℕ) → isKilled st ≡ false → length d ≡ 2 * n → 1 ≤ n → n ≤ 255 → at + n ≤ y .user .words → n ≤ pairsIn y
       → let stores = changeStores (y .work .at) (writtenWords y m at d n) in length stores ≤ s
-      → writeOf (on st true r) m at d s ≡ transferred 0 (on st true (withUnwritten (someUnwritten y m at n) r)) 0 (length stores) (after m stores) []
+      → writeOf (on st true r) m at d s ≡ gives 0 (on st true (withUnwritten (someUnwritten y m at n) r)) 0 (length stores) (after m stores) []
   -- when Killed: zeros, and nothing stored; bit 0 is set
   pub read-killed : (at n : ℕ) (room : List ℕ) → isKilled st ≡ true → 1 ≤ n → n ≤ 255 → at + n ≤ y .user .words → 2 * n ≤ length room
-      → readOf (on st true r) m at n room ≡ transferred 0 (on st true (withKilled r)) (16 * n) 0 m (packed (replicate (16 * n) 0) room)
+      → readOf (on st true r) m at n room ≡ gives 0 (on st true (withKilled r)) (16 * n) 0 m (packed (replicate (16 * n) 0) room)
   pub write-killed : (at : ℕ) (d : List ℕ) (n s : ℕ) → isKilled st ≡ true → length d ≡ 2 * n → 1 ≤ n → n ≤ 255 → at + n ≤ y .user .words → n ≤ pairsIn y
       → writeOf (on st true r) m at d s ≡ leaves 0 (on st true (withKilled r)) m []
 

@@ -119,11 +119,11 @@ pub held-first : whileHeld (pendingOne 17 1) .number ≡ 6 → ⊥
 held-first e = let z : _≡_ {A = ℕ} 5 6 = sym (frames .pending) ∙ e in omega arith
 
 -- an error that leads to Arbitrate
-abbrev handleIn : Session → ℕ
-handleIn s = linkOf (liveOf (s .power) .state) .handle
+abbrev handleNo : Session → ℕ
+handleNo s = linkOf (liveOf (s .power) .state) .handle
 
 pub error-moves : sent worked write16 66 5 .session ≡ newSession state.Arbitrate → ⊥
-error-moves e = let z : _≡_ {A = ℕ} 0x1234 0 = sym (ap handleIn (frames .error)) ∙ ap handleIn e in omega arith
+error-moves e = let z : _≡_ {A = ℕ} 0x1234 0 = sym (ap handleNo (frames .error)) ∙ ap handleNo e in omega arith
 
 -- a BlockWrite that is done and leaves its second word as it was
 pub half-a-block : wordAt (sent worked block2 90 8 .image) 31 ≡ 10 → ⊥

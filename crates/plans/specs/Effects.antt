@@ -61,72 +61,45 @@ shows c o n = does (used (c .state)) (reply.Words o n (handleIn c)) []
 abbrev pub waits : Scene → Half → Effect
 waits c h = does (withLink (c .state) (halved (linkOf (c .state)) h)) (reply.Number (handleIn c)) []
 
+-- 3.20: words of a span written, where the word for EPC word 1, if it is among them, is pc
+abbrev pub writes : Scene → Span → ℕ → List Store → Effect
+writes c s pc ws = unless (writeCode (c .layout) (c .image) (isSecured (c .state)) s pc) (stores c ws)
+
 -- where the words of a span stand in the image
 abbrev pub placeOf : Layout → Span → ℕ
 placeOf y s = bankOf y (s .bank) .at + s .pointer
 
--- the fresh word becomes the handle or the cover number, and is answered
-abbrev pub reqRn : Scene → Effect
-reqRn c = does (numbered (c .layout) (c .image) (c .fresh) (c .state)) (reply.Number (c .fresh)) []
-
-abbrev pub read : Scene → Span → Effect
-read c s =
-    let y = c .layout in
-    unless (readCode y (c .image) (isSecured (c .state)) s) (shows c (placeOf y s) (spanWords (bankOf y (s .bank)) s))
-
-abbrev pub write : Scene → Span → ℕ → Effect
-write c s w =
-    let y = c .layout in
-    unless (writeCode y (c .image) (isSecured (c .state)) s (plain c w)) (stores c (store (placeOf y s) (plain c w) ∷ []))
-
--- by the half that waits: the first has code 00h where there is no kill password; right Kill stores killed as 1. The other password's half was answered 12
+-- a half of Kill, by the half that waits: the first has code 00h where there is no kill password; right Kill stores killed as 1.
+-- Where a half of the other password waits, the answer was 12
 abbrev pub kill : Scene → ℕ → Half → Effect
 kill c h half.Nothing = unless (cond (zeroKill (c .layout) (c .image)) other code.Nothing) (waits c (half.Kill (plain c h)))
 kill c h (half.Kill up) = does state.Killed (reply.Success (handleIn c)) (store (c .layout .status .at + 1) 1 ∷ [])
 kill c h (half.Access up) = does (c .state) reply.Silence []
 
-abbrev pub lock : Scene → ℕ → ℕ → Effect
-lock c mask action =
-    let y = c .layout in
-    unless (lockCode y (c .image) mask action) (stores c (store (y .status .at) (lockedTo (lockWord y (c .image)) mask action) ∷ []))
-
--- by the half that waits; right Access: Secured
+-- a half of Access; right Access: Secured
 abbrev pub access : Scene → ℕ → Half → Effect
 access c h half.Nothing = waits c (half.Access (plain c h))
 access c h (half.Access up) = does (state.Secured (halved (linkOf (c .state)) half.Nothing)) (reply.Number (handleIn c)) []
 access c h (half.Kill up) = does (c .state) (reply.Number (handleIn c)) []
 
--- the words that the frame brings from bit p on; the one for word 1 of the bank may be a PC
-abbrev pub blockWrite : Scene → Span → ℕ → Effect
-blockWrite c s p =
+-- THE COMMANDS: what each comes to, unless its error code applies. A frame's words begin at its bit p
+abbrev pub effectOf : Scene → Order → Effect
+effectOf c order.ReqRn = does (numbered (c .layout) (c .image) (c .fresh) (c .state)) (reply.Number (c .fresh)) []
+effectOf c (order.Read s) =
+    let bank = bankOf (c .layout) (s .bank) in
+    unless (readCode (c .layout) (c .image) (isSecured (c .state)) s) (shows c (bank .at + s .pointer) (spanWords bank s))
+effectOf c (order.Write s w) = writes c s (plain c w) (store (placeOf (c .layout) s) (plain c w) ∷ [])
+effectOf c (order.Kill h) = kill c h (linkOf (c .state) .half)
+effectOf c (order.Lock mask action) =
     let y = c .layout in
+    unless (lockCode y (c .image) mask action) (stores c (store (y .status .at) (lockedTo (lockWord y (c .image)) mask action) ∷ []))
+effectOf c (order.Access h) = access c h (linkOf (c .state) .half)
+effectOf c (order.BlockWrite s p) =
     let word : ℕ → ℕ = λ j. fieldAt (c .frame) (p + 16 * j) 16 in
-    unless (writeCode y (c .image) (isSecured (c .state)) s (word (1 - s .pointer)))
-    (stores c (below (λ j. store (placeOf y s + j) (word j)) (s .count)))
-
-abbrev pub blockErase : Scene → Span → Effect
-blockErase c s =
-    let y = c .layout in
-    unless (writeCode y (c .image) (isSecured (c .state)) s 0) (stores c (below (λ j. store (placeOf y s + j) 0) (s .count)))
-
-abbrev pub readPermalock : Scene → Span → Effect
-readPermalock c s = unless (permaReadCode (c .layout) s) (shows c (c .layout .perma .at + s .pointer) (s .count))
-
--- masked bits are added, none removed
-abbrev pub permalock : Scene → Span → ℕ → Effect
-permalock c s p =
+    writes c s (word (1 - s .pointer)) (below (λ j. store (placeOf (c .layout) s + j) (word j)) (s .count))
+effectOf c (order.BlockErase s) = writes c s 0 (below (λ j. store (placeOf (c .layout) s + j) 0) (s .count))
+effectOf c (order.ReadPermalock r s) = unless (permaReadCode (c .layout) s) (shows c (c .layout .perma .at + s .pointer) (s .count))
+effectOf c (order.Permalock r s p) =
     let o = c .layout .perma .at + s .pointer in
     unless (permaCode (c .layout) (c .image) s (c .frame) p)
     (stores c (below (λ j. store (o + j) (bitOr (wordAt (c .image) (o + j)) (fieldAt (c .frame) (p + 16 * j) 16))) (s .count)))
-
-abbrev pub effectOf : Scene → Order → Effect
-effectOf c order.ReqRn = reqRn c
-effectOf c (order.Read s) = read c s
-effectOf c (order.Write s w) = write c s w
-effectOf c (order.Kill h) = kill c h (linkOf (c .state) .half)
-effectOf c (order.Lock mask action) = lock c mask action
-effectOf c (order.Access h) = access c h (linkOf (c .state) .half)
-effectOf c (order.BlockWrite s p) = blockWrite c s p
-effectOf c (order.BlockErase s) = blockErase c s
-effectOf c (order.ReadPermalock r s) = readPermalock c s
-effectOf c (order.Permalock r s p) = permalock c s p

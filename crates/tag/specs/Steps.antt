@@ -3,7 +3,7 @@ use Prim.Native.Nat.{ℕ, _+_, _*_, _≤_, _<_}
 use mathlib.Core.Bool.{cond, not}
 use mathlib.Core.List.{List, [], _∷_}
 use lib.Dec.{eqb, ltb}
-use lib.ListN.{length, take}
+use lib.ListN.{length}
 use Rattle.bits.specs.Words.{Store, store, after}
 use Rattle.bits.specs.Below.{below}
 use Rattle.image.specs.declared.Layout.{Layout}
@@ -33,7 +33,7 @@ use Rattle.tag.specs.declared.Answer.{Answer}
 use Rattle.tag.specs.declared.Answer.the-variants as answer
 use Rattle.tag.specs.declared.Outcome.{Outcome}
 use Rattle.tag.specs.Session.{offSession}
-use Rattle.tag.specs.Result.{Result, result}
+use Rattle.tag.specs.Result.{Result, gives, leaves, lost, result}
 use Rattle.states.specs.Commands.{asksOf, linkOf, isKilled, wrongCommand, breaks, used}
 use Rattle.plans.specs.Effects.{Scene, Effect, effectOf}
 use Rattle.tag.specs.Table.{fits, movedTo}
@@ -51,49 +51,21 @@ abbrev pub refusedWith : Live → Answer → Outcome
 refusedWith l a = record { answer = a; session = onSession l; reply = 0; stores = 0; value = 0 }
 
 abbrev pub kept : ℕ → Live → List ℕ → List ℕ → Result
-kept n l m room =
-    record { number = n; session = onSession l; reply = 0; stores = 0; value = 0; image = m; room = room }
+kept n l m room = leaves n (onSession l) m room
 
 -- an error's reply, or no room for it
 unfoldable pub errorEnd : Live → ℕ → List ℕ → List ℕ → ℕ → Result
 errorEnd l h m room e =
     let r = reply.Error e h in
-    cond (fits r room)
-    (record {
-      number = 10;
-      session = movedTo l (used (l .state));
-      reply = replyLength r;
-      stores = 0;
-      value = 0;
-      image = m;
-      room = packed (replyBits m r) room;
-    })
-    (kept 4 l m room)
+    cond (fits r room) (gives 10 (movedTo l (used (l .state))) (replyLength r) 0 m (packed (replyBits m r) room)) (kept 4 l m room)
 
 -- no room for the reply, too little power, or done; WORK is at word w
 unfoldable pub doneEnd : Live → ℕ → List ℕ → List ℕ → ℕ → Reply → State → List Store → Result
 doneEnd l w m room s r st ss =
     let stores = changeStores w ss in
     cond (not (fits r room)) (kept 4 l m room)
-    (cond (ltb s (length stores))
-    (record {
-      number = 11;
-      session = offSession;
-      reply = 0;
-      stores = s;
-      value = 0;
-      image = after m (take s stores);
-      room = room;
-    })
-    (record {
-      number = 0;
-      session = movedTo l st;
-      reply = replyLength r;
-      stores = length stores;
-      value = 0;
-      image = after m stores;
-      room = packed (replyBits m r) room;
-    }))
+    (cond (ltb s (length stores)) (lost m stores s room)
+    (gives 0 (movedTo l st) (replyLength r) (length stores) (after m stores) (packed (replyBits m r) room)))
 
 -- a reply without a store: no room for it, or done
 abbrev pub tellEnd : Live → List ℕ → List ℕ → Reply → State → Result
@@ -103,17 +75,8 @@ tellEnd l m room r st = doneEnd l 0 m room 0 r st []
 unfoldable pub storeEnd : Live → ℕ → State → List ℕ → List ℕ → ℕ → ℕ → ℕ → Result
 storeEnd l h st m room made need s =
     let r = reply.Success h in
-    cond (ltb s need)
-    (record { number = 11; session = offSession; reply = 0; stores = made; value = 0; image = m; room = room })
-    (record {
-      number = 0;
-      session = movedTo l st;
-      reply = replyLength r;
-      stores = made;
-      value = 0;
-      image = m;
-      room = packed (replyBits m r) room;
-    })
+    cond (ltb s need) (gives 11 offSession 0 made m room)
+    (gives 0 (movedTo l st) (replyLength r) made m (packed (replyBits m r) room))
 
 -- how many stores a change of c words needs
 abbrev pub neededFor : ℕ → ℕ

@@ -3,7 +3,7 @@ use Prim.Native.Nat.{ℕ}
 use mathlib.Core.Bool.{Bool, true, false, not, _&&_, _||_}
 use mathlib.Core.List.{List, [], _∷_, _++_}
 use lib.Dec.{eqb, ltb}
-use lib.ListN.{length, take}
+use lib.ListN.{length}
 use Rattle.bits.specs.Words.{Store, after}
 use Rattle.bits.specs.First.{first}
 use Rattle.image.specs.declared.Layout.{Layout}
@@ -26,9 +26,9 @@ use Rattle.tag.specs.declared.Live.{Live}
 use Rattle.tag.specs.declared.Power.{Power}
 use Rattle.tag.specs.declared.Power.the-variants as power
 use Rattle.tag.specs.declared.Session.{Session}
-use Rattle.tag.specs.Session.{offSession, on, clear}
-use Rattle.tag.specs.Result.{Result, leaves}
-use Rattle.states.specs.Commands.{asksOf, linkOf, wrong, breaks, used}
+use Rattle.tag.specs.Session.{on, clear}
+use Rattle.tag.specs.Result.{Result, gives, leaves, lost}
+use Rattle.states.specs.Commands.{asksOf, linkOf, isArbitrate, wrong, breaks, used}
 use Rattle.plans.specs.Effects.{Scene, Effect, does, effectOf}
 
 -- what a frame call is handed
@@ -120,36 +120,26 @@ abbrev pub dropped : Input → Result
 dropped i = leaves 12 (movedTo (live i) state.Arbitrate) (i .image) (i .room)
 
 abbrev pub cut : Input → Result
-cut i =
-    record {
-      number = 11;
-      session = offSession;
-      reply = 0;
-      stores = i .power;
-      value = 0;
-      image = after (i .image) (take (i .power) (storesOf i));
-      room = i .room;
-    }
+cut i = lost (i .image) (storesOf i) (i .power) (i .room)
 
 abbrev pub replied : Input → ℕ → State → List Store → Result
 replied i n st ss =
-    record {
-      number = n;
-      session = movedTo (live i) st;
-      reply = replyLength (replyOf i);
-      stores = length ss;
-      value = 0;
-      image = after (i .image) ss;
-      room = packed (replyBits (i .image) (replyOf i)) (i .room);
-    }
+    gives n (movedTo (live i) st) (replyLength (replyOf i)) (length ss) (after (i .image) ss)
+    (packed (replyBits (i .image) (replyOf i)) (i .room))
+
+-- 1, 2, 3, 5 and 6, for every call with an image; `port` is when the port forbids it
+abbrev pub firstRows : (ℕ → Result) → Session → List ℕ → Bool → List (Result × Bool)
+firstRows everything session m port =
+    imageRows everything m
+    ++ (everything 5, isOff (session .power) || not (eqb (countIn (layoutOf m) m) 0))
+    ∷ (everything 6, port)
+    ∷ []
 
 -- THE TABLE: what is left, and when
 abbrev pub rows : Input → List (Result × Bool)
 rows i =
-    imageRows (everything i) (i .image)
-    ++ (everything i 5, isOff (i .session .power) || not (eqb (countIn (layout i) (i .image)) 0))
-    ∷ (everything i 6, live i .held)
-    ∷ (everything i 7, malformed (said i))
+    firstRows (everything i) (i .session) (i .image) (live i .held)
+    ++ (everything i 7, malformed (said i))
     ∷ (everything i 8, checksumWrong (i .frame) (i .bits) (said i))
     ∷ (everything i 9, wrong (stateOf i) (said i))
     ∷ (dropped i, broken i (said i))
@@ -167,13 +157,6 @@ input session image frame bits fresh room power =
     record { session = session; image = image; frame = frame; bits = bits; fresh = fresh; room = room; power = power }
 
 -- 3.2: an admission takes Arbitrate to Acknowledged; it has neither image nor room, so its order starts at 5
-abbrev pub isArbitrate : State → Bool
-isArbitrate state.Arbitrate = true
-isArbitrate (state.Acknowledged n) = false
-isArbitrate (state.Open k) = false
-isArbitrate (state.Secured k) = false
-isArbitrate state.Killed = false
-
 abbrev pub answered : ℕ → Session → Result
 answered n session = leaves n session [] []
 

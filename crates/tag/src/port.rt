@@ -12,7 +12,7 @@ ghost use Rattle.replies.specs.Pack.{packed};
 ghost use Rattle.tag.specs.Session.{numberOf};
 ghost use Rattle.tag.specs.Table.{liveOf};
 ghost use Rattle.states.specs.Commands.{isKilled};
-ghost use Rattle.tag.specs.Port.{isLinked, heldTo, registerTo, bitOf, numberIn, withKilled, withUnwritten, badCount, badData, readBits, portOpen, askOf, releaseOf, registerOf, readOf, writeOf};
+ghost use Rattle.tag.specs.Port.{heldTo, registerTo, bitOf, numberIn, withKilled, withUnwritten, badCount, badData, readBits, portOpen, askOf, releaseOf, registerOf, readOf, writeOf};
 ghost use Rattle.tag.specs.PortSteps.{gated, heldRow, afterKilled, endRow, readRow, writeEnd, Masked};
 ghost use Rattle.tag.specs.Result.{result};
 use crate::Answer;
@@ -26,18 +26,6 @@ use crate::radio;
 use crate::starting;
 use image::Layout;
 use states::State;
-
-fn is_linked(state: State) -> bool
-    ensures { λ r. ⌜ r ≡ isLinked state ⌝ }
-{
-    match state {
-        State::Arbitrate => false,
-        State::Acknowledged(_) => false,
-        State::Open(_) => true,
-        State::Secured(_) => true,
-        State::Killed => false,
-    }
-}
 
 // The session with its port held or free.
 fn with_held(l: Live, held: bool) -> Session
@@ -346,7 +334,7 @@ impl Session {
             return radio::unmoved(self, Answer::Port);
         }
         let state = l.state;
-        if is_linked(state) {
+        if states::is_linked(state) {
             return radio::unmoved(self, Answer::Port);
         }
         answering::done(with_held(l, true), 0, 0, 0)
