@@ -7,13 +7,13 @@ use lib.Dec.{eqb}
 use borrow.Author.Tests.{eqb-true, eqb-false, eq-eqb, ne-eqb}
 use Rattle.image.specs.Layout.{layoutOf}
 use Rattle.image.specs.Content.{countIn}
-use Rattle.tag.specs.declared.State.{State}
-use Rattle.tag.specs.declared.State.the-variants as state
+use Rattle.states.specs.declared.State.{State}
+use Rattle.states.specs.declared.State.the-variants as state
 use Rattle.tag.specs.declared.Live.{Live}
 use Rattle.tag.specs.declared.Power.{Power}
 use Rattle.tag.specs.declared.Power.the-variants as power
 use Rattle.tag.specs.declared.Session.{Session}
-use Rattle.tag.specs.Commands.{isKilled}
+use Rattle.states.specs.Commands.{isKilled}
 use Rattle.tag.specs.Table.{isOff, liveOf}
 use Rattle.tag.specs.Port.{withKilled}
 use Rattle.tag.specs.PortSteps.{heldRow, endRow, readRow, afterKilled}

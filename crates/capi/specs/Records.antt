@@ -2,13 +2,13 @@
 use Prim.Native.Nat.{ℕ}
 use mathlib.Core.Bool.{Bool, cond, not, _&&_}
 use lib.Dec.{eqb}
-use Rattle.tag.specs.declared.Cover.{Cover}
-use Rattle.tag.specs.declared.Cover.the-variants as cover
-use Rattle.tag.specs.declared.Half.{Half}
-use Rattle.tag.specs.declared.Half.the-variants as half
-use Rattle.tag.specs.declared.Link.{Link}
-use Rattle.tag.specs.declared.State.{State}
-use Rattle.tag.specs.declared.State.the-variants as state
+use Rattle.states.specs.declared.Cover.{Cover}
+use Rattle.states.specs.declared.Cover.the-variants as cover
+use Rattle.states.specs.declared.Half.{Half}
+use Rattle.states.specs.declared.Half.the-variants as half
+use Rattle.states.specs.declared.Link.{Link}
+use Rattle.states.specs.declared.State.{State}
+use Rattle.states.specs.declared.State.the-variants as state
 use Rattle.tag.specs.declared.Live.{Live}
 use Rattle.tag.specs.declared.Power.{Power}
 use Rattle.tag.specs.declared.Power.the-variants as power

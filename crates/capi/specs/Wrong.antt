@@ -15,16 +15,16 @@ use Rattle.image.specs.Worked.{worked}
 use Rattle.frames.specs.Frames.{heardOf}
 use Rattle.replies.specs.Pack.{filled, packed}
 use Rattle.stores.specs.Stores.{powerStores}
-use Rattle.tag.specs.declared.Cover.the-variants as cover
-use Rattle.tag.specs.declared.Half.the-variants as half
-use Rattle.tag.specs.declared.State.the-variants as state
-use Rattle.tag.specs.Session.{offSession, on}
+use Rattle.states.specs.declared.Cover.the-variants as cover
+use Rattle.states.specs.declared.Half.the-variants as half
+use Rattle.states.specs.declared.State.the-variants as state
+use Rattle.tag.specs.Session.{offSession, on, clear}
 use Rattle.tag.specs.Power.{started, powerUpOf}
 use Rattle.tag.specs.Table.{input, frameOf, admitOf}
 use Rattle.tag.specs.Port.{askOf, releaseOf, registerOf, readOf, writeOf}
 use Rattle.capi.specs.declared.Record.{Record}
 use Rattle.capi.specs.declared.Sheet.{Sheet}
-use Rattle.capi.specs.Records.{looseOf, same, sessionOf}
+use Rattle.capi.specs.Records.{recordOf, looseOf, same, sessionOf}
 use Rattle.capi.specs.Told.{Left, toldOf, sheetOf}
 
 -- a record by state, port and number, and one with a link
@@ -146,6 +146,10 @@ large =
 -- a number that is one thing is no other
 other : (x a b : ℕ) → x ≡ a → (a ≡ b → ⊥) → x ≡ b → ⊥
 other x a b e n f = n (sym e ∙ f)
+
+-- a half of Access that is written as one of Kill
+pub halves-swapped : recordOf (on (state.Secured (record { handle = 0x1234; cover = cover.Nothing; half = half.Access 0x9ABC })) false clear .power) .half ≡ 2 → ⊥
+halves-swapped = other _ 1 2 refl (λ z. omega (arith, z))
 
 -- a check that refuses the worked image, and one that hides its layout
 pub check-refuses : checked .answer ≡ 2 → ⊥

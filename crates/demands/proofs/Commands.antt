@@ -24,23 +24,23 @@ use Rattle.replies.specs.Pack.{packed}
 use Rattle.rights.specs.declared.Code.{Code}
 use Rattle.rights.specs.declared.Code.the-variants as code
 use Rattle.stores.specs.Stores.{changeStores}
-use Rattle.tag.specs.declared.Cover.{Cover}
-use Rattle.tag.specs.declared.Cover.the-variants as cover
-use Rattle.tag.specs.declared.Half.{Half}
-use Rattle.tag.specs.declared.Half.the-variants as half
-use Rattle.tag.specs.declared.Link.{Link}
-use Rattle.tag.specs.declared.Part.the-variants as part
+use Rattle.states.specs.declared.Cover.the-variants as cover
+use Rattle.states.specs.declared.Half.{Half}
+use Rattle.states.specs.declared.Half.the-variants as half
+use Rattle.states.specs.declared.Link.{Link}
+use Rattle.states.specs.declared.Part.the-variants as part
 use Rattle.tag.specs.declared.Register.{Register}
-use Rattle.tag.specs.declared.State.{State}
-use Rattle.tag.specs.declared.State.the-variants as state
+use Rattle.states.specs.declared.State.{State}
+use Rattle.states.specs.declared.State.the-variants as state
 use Rattle.tag.specs.declared.Session.{Session}
 use Rattle.tag.specs.Session.{offSession, on}
-use Rattle.tag.specs.Result.{Result, leaves}
-use Rattle.tag.specs.Commands.{asksOf, linkOf, isSecured, isCovered, isKilled, wrong, wrongCommand, killWord, accessWord, breaks, codeOf, used, stateAfter, replyAfter, wordsAfter}
-use Rattle.tag.specs.Table.{Input, input, said, malformed, checksumWrong, broken, errorCode, newState, doneReply, doneWords, isError, replyOr, replyOf, storesOf, fits, replied, rows, frameOf, admitOf}
-use Rattle.tag.specs.Port.{badCount, badData, refusals, transferred, withKilled, withUnwritten, someUnwritten, writtenWords, readBits, portWords, askOf, releaseOf, registerOf, readOf, writeOf}
+use Rattle.tag.specs.Result.{Result, leaves, gives}
+use Rattle.states.specs.Commands.{asksOf, linkOf, isCovered, isKilled, wrong, wrongCommand, breaks}
+use Rattle.plans.specs.Effects.{Effect, effectOf}
+use Rattle.tag.specs.Table.{Input, input, malformed, checksumWrong, broken, comes, effect, isError, replyOr, replyOf, storesOf, fits, replied, rows, frameOf, admitOf}
+use Rattle.tag.specs.Port.{badCount, badData, refusals, withKilled, withUnwritten, someUnwritten, writtenWords, readBits, portWords, askOf, releaseOf, registerOf, readOf, writeOf}
 use Rattle.demands.specs.Calls.{answerOf, Idle}
-use Rattle.demands.specs.Commands.{Air, hears, linked, link, done, Does, Radio, Engine, Demand2}
+use Rattle.demands.specs.Commands.{Air, hears, link, done, Does, Radio, Engine, Demand2}
 use Rattle.demands.proofs.Rows.{Rows, None, none-first}
 use Rattle.demands.proofs.Cuts.{started-so}
 
@@ -67,22 +67,23 @@ module _ (a : Air) (st : State) (r : Register) (idle : Idle (layoutOf (a .image)
   fitting rp l = ap not (le-ltb (length (a .room)) (replyBytes rp) l)
 
   module _ (x : Heard) (h : heardOf (a .frame) (a .bits) ≡ x) (m : malformed x ≡ false) (k : checksumWrong (a .frame) (a .bits) x ≡ false)
-      (w : wrong st x ≡ false) (b : broken handed x ≡ false) (e : errorCode handed x ≡ code.Nothing)
-      (room : replyBytes (doneReply handed x) ≤ length (a .room)) (power : length (changeStores (layoutOf (a .image) .work .at) (doneWords handed x)) ≤ a .power) where
-    reply-is : replyOf handed ≡ doneReply handed x
+      (w : wrong st x ≡ false) (b : broken handed x ≡ false) (e : comes handed x .code ≡ code.Nothing)
+      (room : replyBytes (comes handed x .reply) ≤ length (a .room)) (power : length (changeStores (layoutOf (a .image) .work .at) (comes handed x .words)) ≤ a .power) where
+    effect-is : effect handed ≡ comes handed x
+    unfolding handed
+    effect-is = ap (comes handed) h
+
+    reply-is : replyOf handed ≡ comes handed x .reply
     unfolding handed
     reply-is =
-        ap (λ (z : Heard). replyOr (errorCode handed z) (linkOf st .handle) (doneReply handed z)) h
-        ∙ ap (λ (c : Code). replyOr c (linkOf st .handle) (doneReply handed x)) e
+        ap (λ (z : Effect). replyOr (z .code) (linkOf st .handle) (z .reply)) effect-is
+        ∙ ap (λ (c : Code). replyOr c (linkOf st .handle) (comes handed x .reply)) e
 
-    code-is : errorCode handed (heardOf (a .frame) (a .bits)) ≡ code.Nothing
-    code-is = ap (errorCode handed) h ∙ e
-
-    words-are : doneWords handed (heardOf (a .frame) (a .bits)) ≡ doneWords handed x
-    words-are = ap (doneWords handed) h
+    code-is : effect handed .code ≡ code.Nothing
+    code-is = ap (λ (z : Effect). z .code) effect-is ∙ e
 
     fits-is : fits (replyOf handed) (a .room) ≡ true
-    fits-is = ap (λ (q : Reply). fits q (a .room)) reply-is ∙ fitting (doneReply handed x) room
+    fits-is = ap (λ (q : Reply). fits q (a .room)) reply-is ∙ fitting (comes handed x .reply) room
 
     none : None (rows handed)
     unfolding handed
@@ -109,7 +110,7 @@ module _ (a : Air) (st : State) (r : Register) (idle : Idle (layoutOf (a .image)
                             ap (λ (q : Code). isError q && fits (replyOf handed) (a .room)) code-is,
                             (
                               ap not fits-is,
-                              (le-ltb (a .power) _ (subst (λ (ws : List Store). length (changeStores (layoutOf (a .image) .work .at) ws) ≤ a .power) (sym words-are) power), tt),
+                              (le-ltb (a .power) _ (subst (λ (z : Effect). length (changeStores (layoutOf (a .image) .work .at) (z .words)) ≤ a .power) (sym effect-is) power), tt),
                             ),
                           ),
                         ),
@@ -122,83 +123,41 @@ module _ (a : Air) (st : State) (r : Register) (idle : Idle (layoutOf (a .image)
           ),
         )
 
-    last-row : hears answerOf a (on st false r) ≡ given (doneReply handed x) (newState handed x) (doneWords handed x)
+    last-row : hears answerOf a (on st false r) ≡ given (comes handed x .reply) (comes handed x .state) (comes handed x .words)
     unfolding frameOf handed given
     last-row =
-        none-first (rows handed) (replied handed 0 (newState handed (said handed)) (storesOf handed)) none
-        ∙ ap (λ (q : Reply). given q (newState handed (said handed)) (doneWords handed (said handed))) reply-is
-        ∙ ap₂ (given (doneReply handed x)) (ap (newState handed) h) words-are
+        none-first (rows handed) (replied handed 0 (effect handed .state) (storesOf handed)) none
+        ∙ ap (λ (q : Reply). given q (effect handed .state) (effect handed .words)) reply-is
+        ∙ ap (λ (z : Effect). given (comes handed x .reply) (z .state) (z .words)) effect-is
 
 -- an order that is heard, for the tag, whose halves are not broken and to which no code applies
 module _ (a : Air) (r : Register) (idle : Idle (layoutOf (a .image)) (a .image)) where
+  -- what an order comes to in a state
+  at : State → Order → Effect
+  at st o = effectOf (record { layout = layoutOf (a .image); image = a .image; state = st; frame = a .frame; fresh = a .fresh }) o
+
+  -- it comes to its effect
+  Comes : ℕ → Order → State → Type 0
+  Comes n o st = Does answerOf (layoutOf (a .image)) a r n o st (at st o .state) (at st o .reply) (at st o .words)
+
   order-done : (st : State) (n : ℕ) (o : Order) → wrongCommand st (record { number = n; order = o }) ≡ false
-      → breaks (layoutOf (a .image)) (a .image) (linkOf st) (linkOf st .half) (asksOf o .part) ≡ false
-      → codeOf (layoutOf (a .image)) (a .image) (isSecured st) (linkOf st) (a .frame) o ≡ code.Nothing
-      → Does answerOf (layoutOf (a .image)) a r n o st (stateAfter (layoutOf (a .image)) (a .image) (a .fresh) st o)
-      (replyAfter (layoutOf (a .image)) (a .fresh) (linkOf st) o) (wordsAfter (layoutOf (a .image)) (a .image) (linkOf st) (a .frame) o)
-  unfolding handed given
+      → breaks (layoutOf (a .image)) (a .image) (linkOf st) (linkOf st .half) (asksOf o .part) ≡ false → at st o .code ≡ code.Nothing → Comes n o st
+  unfolding handed given at Comes
   order-done st n o w b e says enough =
       last-row a st r idle (heard.Said (record { number = n; order = o })) (says .heard) refl (ap not (says .right)) w b e (enough .0) (enough .1)
 
-  -- in Open and Secured alike
-  linked-done : (q : Bool) (k : Link) (o : Order) → asksOf o .secured ≡ false → asksOf o .cover && not (isCovered (k .cover)) ≡ false → asksOf o .bad ≡ false
-      → breaks (layoutOf (a .image)) (a .image) k (k .half) (asksOf o .part) ≡ false → codeOf (layoutOf (a .image)) (a .image) q k (a .frame) o ≡ code.Nothing
-      → Does answerOf (layoutOf (a .image)) a r (k .handle) o (linked q k) (stateAfter (layoutOf (a .image)) (a .image) (a .fresh) (linked q k) o)
-      (replyAfter (layoutOf (a .image)) (a .fresh) k o) (wordsAfter (layoutOf (a .image)) (a .image) k (a .frame) o)
-  linked-done true k o s c d b e = order-done (state.Secured k) (k .handle) o (rw (eq-eqb (k .handle) (k .handle) refl, c, d)) b e
-  linked-done false k o s c d b e = order-done (state.Open k) (k .handle) o (rw (s, eq-eqb (k .handle) (k .handle) refl, c, d)) b e
-
   secured-done : (k : Link) (o : Order) → asksOf o .cover && not (isCovered (k .cover)) ≡ false → asksOf o .bad ≡ false
-      → breaks (layoutOf (a .image)) (a .image) k (k .half) (asksOf o .part) ≡ false → codeOf (layoutOf (a .image)) (a .image) true k (a .frame) o ≡ code.Nothing
-      → Does answerOf (layoutOf (a .image)) a r (k .handle) o (state.Secured k) (stateAfter (layoutOf (a .image)) (a .image) (a .fresh) (state.Secured k) o)
-      (replyAfter (layoutOf (a .image)) (a .fresh) k o) (wordsAfter (layoutOf (a .image)) (a .image) k (a .frame) o)
+      → breaks (layoutOf (a .image)) (a .image) k (k .half) (asksOf o .part) ≡ false → at (state.Secured k) o .code ≡ code.Nothing → Comes (k .handle) o (state.Secured k)
   secured-done k o c d b e = order-done (state.Secured k) (k .handle) o (rw (eq-eqb (k .handle) (k .handle) refl, c, d)) b e
 
-  -- how a command leaves the state
-  module _ (h : ℕ) (c : Cover) (p : Half) where
-    after-used : (q : Bool) → used (linked q (link h c p)) ≡ linked q (link h cover.Nothing p)
-    after-used true = refl
-    after-used false = refl
+  open-done : (k : Link) (o : Order) → asksOf o .secured ≡ false → asksOf o .cover && not (isCovered (k .cover)) ≡ false → asksOf o .bad ≡ false
+      → breaks (layoutOf (a .image)) (a .image) k (k .half) (asksOf o .part) ≡ false → at (state.Open k) o .code ≡ code.Nothing → Comes (k .handle) o (state.Open k)
+  open-done k o s c d b e = order-done (state.Open k) (k .handle) o (rw (s, eq-eqb (k .handle) (k .handle) refl, c, d)) b e
 
-    after-number : (q : Bool) → stateAfter (layoutOf (a .image)) (a .image) (a .fresh) (linked q (link h c p)) order.ReqRn ≡ linked q (link h (cover.Number (a .fresh)) p)
-    after-number true = refl
-    after-number false = refl
-
-    unbroken : breaks (layoutOf (a .image)) (a .image) (link h c p) p part.Number ≡ false
-    unbroken = go p
-      where
-        go : (x : Half) → breaks (layoutOf (a .image)) (a .image) (link h c p) x part.Number ≡ false
-        go half.Nothing = refl
-        go (half.Access up) = refl
-        go (half.Kill up) = refl
-
-  after-first-kill : (q : Bool) (h c w : ℕ)
-      → stateAfter (layoutOf (a .image)) (a .image) (a .fresh) (linked q (link h (cover.Number c) half.Nothing)) (order.Kill w) ≡ linked q (link h cover.Nothing (half.Kill (bitXor w c)))
-  after-first-kill true h c w = refl
-  after-first-kill false h c w = refl
-
-  after-second-kill : (q : Bool) (h c w up : ℕ) → stateAfter (layoutOf (a .image)) (a .image) (a .fresh) (linked q (link h (cover.Number c) (half.Kill up))) (order.Kill w) ≡ state.Killed
-  after-second-kill true h c w up = refl
-  after-second-kill false h c w up = refl
-
-  after-first-access : (q : Bool) (h c w : ℕ)
-      → stateAfter (layoutOf (a .image)) (a .image) (a .fresh) (linked q (link h (cover.Number c) half.Nothing)) (order.Access w) ≡ linked q (link h cover.Nothing (half.Access (bitXor w c)))
-  after-first-access true h c w = refl
-  after-first-access false h c w = refl
-
-  after-second-access : (q : Bool) (h c w up : ℕ)
-      → stateAfter (layoutOf (a .image)) (a .image) (a .fresh) (linked q (link h (cover.Number c) (half.Access up))) (order.Access w) ≡ state.Secured (link h cover.Nothing half.Nothing)
-  after-second-access true h c w up = refl
-  after-second-access false h c w up = refl
-
-  -- a command's promise with its state written out
-  linked-to : (q : Bool) (k : Link) (o : Order) (v : State) → stateAfter (layoutOf (a .image)) (a .image) (a .fresh) (linked q k) o ≡ v
-      → asksOf o .secured ≡ false → asksOf o .cover && not (isCovered (k .cover)) ≡ false → asksOf o .bad ≡ false
-      → breaks (layoutOf (a .image)) (a .image) k (k .half) (asksOf o .part) ≡ false → codeOf (layoutOf (a .image)) (a .image) q k (a .frame) o ≡ code.Nothing
-      → Does answerOf (layoutOf (a .image)) a r (k .handle) o (linked q k) v (replyAfter (layoutOf (a .image)) (a .fresh) k o) (wordsAfter (layoutOf (a .image)) (a .image) k (a .frame) o)
-  linked-to q k o v u s c d b e says enough =
-      linked-done q k o s c d b e says enough
-      ∙ ap (λ (w : State). done (layoutOf (a .image)) a r w (replyAfter (layoutOf (a .image)) (a .fresh) k o) (wordsAfter (layoutOf (a .image)) (a .image) k (a .frame) o)) u
+  unbroken : (k : Link) (p : Half) → breaks (layoutOf (a .image)) (a .image) k p part.Number ≡ false
+  unbroken k half.Nothing = refl
+  unbroken k (half.Access up) = refl
+  unbroken k (half.Kill up) = refl
 
   nak-done : (st : State) → isKilled st ≡ false → heardOf (a .frame) (a .bits) ≡ heard.Nak → hears answerOf a (on st false r) ≡ done (layoutOf (a .image)) a r state.Arbitrate reply.Silence []
   unfolding handed given
@@ -207,25 +166,55 @@ module _ (a : Air) (r : Register) (idle : Idle (layoutOf (a .image)) (a .image))
   some : (n : ℕ) → 1 ≤ n → eqb n 0 ≡ false
   some n l = ne-eqb n 0 (λ e. omega arith)
 
+  -- a kill password, and a right one
+  no-code : {b : Bool} → b ≡ false → cond b (code.Error 0x00) code.Nothing ≡ code.Nothing
+  no-code e = ap (λ (t : Bool). cond t (code.Error 0x00) code.Nothing) e
+
+  right : (up low u v : ℕ) → up ≡ u → low ≡ v → not (eqb up u && eqb low v) ≡ false
+  right up low u v i j = ap not (ap₂ _&&_ (eq-eqb up u i) (eq-eqb low v j))
+
   radio : Radio answerOf (layoutOf (a .image)) a r
+  unfolding at Comes
   radio =
       record {
         req-rn = λ n. order-done (state.Acknowledged n) n order.ReqRn (rw (eq-eqb n n refl)) refl refl;
-        req-rn-cover = λ q h c p. linked-to q (link h c p) order.ReqRn _ (after-number h c p q) refl refl refl (unbroken h c p) refl;
-        read = λ q h c b p n e. linked-to q (link h c half.Nothing) (order.Read (span b p n)) _ (after-used h c half.Nothing q) refl refl refl refl e;
-        write = λ q h c b p w e. linked-to q (link h (cover.Number c) half.Nothing) (order.Write (span b p 1) w) _ (after-used h (cover.Number c) half.Nothing q) refl refl refl refl e;
-        kill-first = λ q h c w e.
-            linked-to q (link h (cover.Number c) half.Nothing) (order.Kill w) _ (after-first-kill q h c w) refl refl refl refl (ap (λ (t : Bool). cond t (code.Error 0x00) code.Nothing) e);
-        kill-second = λ q h c w up i j.
-            linked-to q (link h (cover.Number c) (half.Kill up)) (order.Kill w) _ (after-second-kill q h c w up) refl refl refl
-            (ap not (ap₂ _&&_ (eq-eqb up (killWord (layoutOf (a .image)) (a .image) 0) i) (eq-eqb (bitXor w c) (killWord (layoutOf (a .image)) (a .image) 1) j))) refl;
+        req-rn-cover = elim [
+          | true ↦ λ h c p. secured-done (link h c p) order.ReqRn refl refl (unbroken (link h c p) p) refl
+          | false ↦ λ h c p. open-done (link h c p) order.ReqRn refl refl refl (unbroken (link h c p) p) refl
+        ];
+        read = elim [
+          | true ↦ λ h c b p n e. secured-done (link h c half.Nothing) (order.Read (span b p n)) refl refl refl e
+          | false ↦ λ h c b p n e. open-done (link h c half.Nothing) (order.Read (span b p n)) refl refl refl refl e
+        ];
+        write = elim [
+          | true ↦ λ h c b p w e. secured-done (link h (cover.Number c) half.Nothing) (order.Write (span b p 1) w) refl refl refl e
+          | false ↦ λ h c b p w e. open-done (link h (cover.Number c) half.Nothing) (order.Write (span b p 1) w) refl refl refl refl e
+        ];
+        kill-first = elim [
+          | true ↦ λ h c w e. secured-done (link h (cover.Number c) half.Nothing) (order.Kill w) refl refl refl (no-code e)
+          | false ↦ λ h c w e. open-done (link h (cover.Number c) half.Nothing) (order.Kill w) refl refl refl refl (no-code e)
+        ];
+        kill-second = elim [
+          | true ↦ λ h c w up i j. secured-done (link h (cover.Number c) (half.Kill up)) (order.Kill w) refl refl (right up (bitXor w c) _ _ i j) refl
+          | false ↦ λ h c w up i j. open-done (link h (cover.Number c) (half.Kill up)) (order.Kill w) refl refl refl (right up (bitXor w c) _ _ i j) refl
+        ];
         lock = λ h c mask action e. secured-done (link h c half.Nothing) (order.Lock mask action) refl refl refl e;
-        access-first = λ q h c w. linked-to q (link h (cover.Number c) half.Nothing) (order.Access w) _ (after-first-access q h c w) refl refl refl refl refl;
-        access-second = λ q h c w up i j.
-            linked-to q (link h (cover.Number c) (half.Access up)) (order.Access w) _ (after-second-access q h c w up) refl refl refl
-            (ap not (ap₂ _&&_ (eq-eqb up (accessWord (layoutOf (a .image)) (a .image) 0) i) (eq-eqb (bitXor w c) (accessWord (layoutOf (a .image)) (a .image) 1) j))) refl;
-        block-write = λ q h c b p n at l e. linked-to q (link h c half.Nothing) (order.BlockWrite (span b p n) at) _ (after-used h c half.Nothing q) refl refl (some n l) refl e;
-        block-erase = λ q h c b p n l e. linked-to q (link h c half.Nothing) (order.BlockErase (span b p n)) _ (after-used h c half.Nothing q) refl refl (some n l) refl e;
+        access-first = elim [
+          | true ↦ λ h c w. secured-done (link h (cover.Number c) half.Nothing) (order.Access w) refl refl refl refl
+          | false ↦ λ h c w. open-done (link h (cover.Number c) half.Nothing) (order.Access w) refl refl refl refl refl
+        ];
+        access-second = elim [
+          | true ↦ λ h c w up i j. secured-done (link h (cover.Number c) (half.Access up)) (order.Access w) refl refl (right up (bitXor w c) _ _ i j) refl
+          | false ↦ λ h c w up i j. open-done (link h (cover.Number c) (half.Access up)) (order.Access w) refl refl refl (right up (bitXor w c) _ _ i j) refl
+        ];
+        block-write = elim [
+          | true ↦ λ h c b p n at l e. secured-done (link h c half.Nothing) (order.BlockWrite (span b p n) at) refl (some n l) refl e
+          | false ↦ λ h c b p n at l e. open-done (link h c half.Nothing) (order.BlockWrite (span b p n) at) refl refl (some n l) refl e
+        ];
+        block-erase = elim [
+          | true ↦ λ h c b p n l e. secured-done (link h c half.Nothing) (order.BlockErase (span b p n)) refl (some n l) refl e
+          | false ↦ λ h c b p n l e. open-done (link h c half.Nothing) (order.BlockErase (span b p n)) refl refl (some n l) refl e
+        ];
         permalock-read = λ h c b p n l e. secured-done (link h c half.Nothing) (order.ReadPermalock 0 (span b p n)) refl (some n l) refl e;
         permalock = λ h c b p n at l e. secured-done (link h c half.Nothing) (order.Permalock 0 (span b p n) at) refl (some n l) refl e;
         nak = nak-done;
@@ -247,20 +236,20 @@ module _ (m : List ℕ) (st : State) (r : Register) (idle : Idle (layoutOf m) m)
 
   -- a read past its refusals, of a tag that is killed or is not
   engine-read : (k : Bool) (at n : ℕ) (room : List ℕ) → isKilled st ≡ k → 1 ≤ n → n ≤ 255 → at + n ≤ layoutOf m .user .words → 2 * n ≤ length room
-      → readOf (on st true r) m at n room ≡ transferred 0 (on st true (cond k (withKilled r) r)) (16 * n) 0 m (packed (readBits (layoutOf m) m k at n) room)
+      → readOf (on st true r) m at n room ≡ gives 0 (on st true (cond k (withKilled r) r)) (16 * n) 0 m (packed (readBits (layoutOf m) m k at n) room)
   unfolding readOf holder
   engine-read k at n room e a b c d =
       let row : Rows = (leaves 4 (on st true r) m room, ltb (length room) (2 * n)) ∷ [] in
       none-first (refusals holder m room (badCount (layoutOf m) at n) ++ row) _
       (past room (badCount (layoutOf m) at n) row (count-good at n a b c) (le-ltb (length room) (2 * n) d, tt))
-      ∙ ap (λ (t : Bool). transferred 0 (on st true (cond t (withKilled r) r)) (16 * n) 0 m (packed (readBits (layoutOf m) m t at n) room)) e
+      ∙ ap (λ (t : Bool). gives 0 (on st true (cond t (withKilled r) r)) (16 * n) 0 m (packed (readBits (layoutOf m) m t at n) room)) e
 
   -- a write past its refusals
   module _ (at : ℕ) (d : List ℕ) (n s : ℕ) (size : length d ≡ 2 * n) (a : 1 ≤ n) (b : n ≤ 255) (c : at + n ≤ layoutOf m .user .words) (few : n ≤ pairsIn (layoutOf m)) where
     written : Bool → List Store → Result
     written k ws =
         let ss = changeStores (layoutOf m .work .at) ws in
-        transferred 0 (on st true (cond k (withKilled r) (withUnwritten (someUnwritten (layoutOf m) m at n) r))) 0 (length ss) (after m ss) []
+        gives 0 (on st true (cond k (withKilled r) (withUnwritten (someUnwritten (layoutOf m) m at n) r))) 0 (length ss) (after m ss) []
 
     engine-write : (k : Bool) (ws : List Store) → isKilled st ≡ k → portWords (layoutOf m) m k at d ≡ ws → length (changeStores (layoutOf m .work .at) ws) ≤ s
         → writeOf (on st true r) m at d s ≡ written k ws
@@ -271,12 +260,12 @@ module _ (m : List ℕ) (st : State) (r : Register) (idle : Idle (layoutOf m) m)
         let even : length d % 2 ≡ 0 = omega (arith, size) in
         let words : portWords y m (isKilled st) at d ≡ ws = ap (λ (t : Bool). portWords y m t at d) e ∙ f in
         let stores = changeStores (y .work .at) (portWords y m (isKilled st) at d) in
-        let row : Rows = (transferred 11 offSession 0 s (after m (take s stores)) [], ltb s (length stores)) ∷ [] in
+        let row : Rows = (gives 11 offSession 0 s (after m (take s stores)) [], ltb s (length stores)) ∷ [] in
         let bad : badData y at d ≡ false = rw (eq-eqb (length d % 2) 0 even, half, count-good at n a b c, le-ltb (pairsIn y) n few) in
         none-first (refusals holder m [] (badData y at d) ++ row) _
         (past [] (badData y at d) row bad (le-ltb s (length stores) (subst (λ (x : List Store). length (changeStores (y .work .at) x) ≤ s) (sym words) l), tt))
-        ∙ ap₂ (λ (t : Bool) (x : List Store). transferred 0 (on st true (cond t (withKilled r) (withUnwritten (someUnwritten y m at (length d / 2)) r))) 0 (length (changeStores (y .work .at) x)) (after m (changeStores (y .work .at) x)) []) e words
-        ∙ ap (λ (x : ℕ). transferred 0 (on st true (cond k (withKilled r) (withUnwritten (someUnwritten y m at x) r))) 0 (length (changeStores (y .work .at) ws)) (after m (changeStores (y .work .at) ws)) []) half
+        ∙ ap₂ (λ (t : Bool) (x : List Store). gives 0 (on st true (cond t (withKilled r) (withUnwritten (someUnwritten y m at (length d / 2)) r))) 0 (length (changeStores (y .work .at) x)) (after m (changeStores (y .work .at) x)) []) e words
+        ∙ ap (λ (x : ℕ). gives 0 (on st true (cond k (withKilled r) (withUnwritten (someUnwritten y m at x) r))) 0 (length (changeStores (y .work .at) ws)) (after m (changeStores (y .work .at) ws)) []) half
 
   engine : Engine answerOf (layoutOf m) m st r
   unfolding admitOf askOf releaseOf registerOf written

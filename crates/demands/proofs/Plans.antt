@@ -30,10 +30,11 @@ use Rattle.rights.proofs.Banks.{bank-end}
 use Rattle.rights.specs.Rights.{bankOf, pwdBit, permaBit, mayWrite, beyond, badPc, blockOpen, lockedTo, pairBreaks}
 use Rattle.stores.specs.Cuts.{Change}
 use Rattle.stores.proofs.Sane.{goes-under}
-use Rattle.tag.specs.declared.Half.{Half}
-use Rattle.tag.specs.declared.Half.the-variants as half
-use Rattle.tag.specs.declared.Link.{Link}
-use Rattle.tag.specs.Commands.{codeOf, uncovered, placeOf, killWords, wordsAfter}
+use Rattle.states.specs.declared.Half.{Half}
+use Rattle.states.specs.declared.Half.the-variants as half
+use Rattle.states.specs.declared.State.{State}
+use Rattle.states.specs.Commands.{linkOf, isSecured, uncovered}
+use Rattle.plans.specs.Effects.{Scene, kill, access, placeOf, effectOf}
 use Rattle.tag.specs.Port.{portOpen, portWrites, writtenWords}
 use Rattle.tag.proofs.Plans.{within-bank, perma-small, write-rows, perma-rows, lock-rows}
 use Rattle.demands.proofs.Sound.{PairKept, Sound, bank-sound, user-sound, lock-sound, killed-sound, perma-sound}
@@ -101,10 +102,20 @@ module _ (y : Layout) (m : List ℕ) (g : Good y m) where
       (bank-sound y m hd q (s .bank) (s .pointer + j) (f j) b (omega (arith, w)) (every-at (λ j. mayWrite y m q (s .bank) (s .pointer + j)) (s .count) (r .1) j l)
       (λ o p. rw (v j p) (pc-fits s pc j (r .2) o p l))))
 
-  kill-plan : (a : Half) → Plan y m (killWords y a)
-  kill-plan half.Nothing = no-plan y m
-  kill-plan (half.Access up) = no-plan y m
-  kill-plan (half.Kill up) = one-plan y m (store (y .status .at + 1) 1) hd (omega (arith, hd)) (killed-sound y m hd)
+  -- what a command finds
+  at : State → List ℕ → ℕ → Scene
+  at st f fresh = record { layout = y; image = m; state = st; frame = f; fresh = fresh }
+
+  kill-plan : (st : State) (f : List ℕ) (fresh w : ℕ) (a : Half) → Plan y m (kill (at st f fresh) w a .words)
+  unfolding at
+  kill-plan st f fresh w half.Nothing = no-plan y m
+  kill-plan st f fresh w (half.Access up) = no-plan y m
+  kill-plan st f fresh w (half.Kill up) = one-plan y m (store (y .status .at + 1) 1) hd (omega (arith, hd)) (killed-sound y m hd)
+
+  access-plan : (c : Scene) (w : ℕ) (a : Half) → Plan y m (access c w a .words)
+  access-plan c w half.Nothing = no-plan y m
+  access-plan c w (half.Access up) = no-plan y m
+  access-plan c w (half.Kill up) = no-plan y m
 
   mask-plan : (s : Span) (f : List ℕ) (p : ℕ)
       → (s .pointer + s .count ≤ y .perma .words) × (every (λ k. eqb (bitAt f (p + k)) 0 || ltb (16 * s .pointer + k) (blocksIn y)) (16 * s .count) ≡ true)
@@ -142,31 +153,33 @@ module _ (y : Layout) (m : List ℕ) (g : Good y m) where
           (perma-sound y m hd (s .pointer + j) (fieldAt f (p + 16 * j) 16) (omega (arith, r .0)) (g .content 0) (λ t h b. clear j t l h b))
 
   -- the words of every order that gets no error code
-  pub order-plan : (q : Bool) (k : Link) (f : List ℕ) (o : Order) → Small o → codeOf y m q k f o ≡ code.Nothing → Plan y m (wordsAfter y m k f o)
-  unfolding lockedTo
-  order-plan q k f order.ReqRn h e = no-plan y m
-  order-plan q k f (order.Read s) h e = no-plan y m
-  order-plan q k f (order.Write s w) h e =
-      let r = write-rows y m hd m q s _ e in
+  pub order-plan : (st : State) (f : List ℕ) (fresh : ℕ) (o : Order) → Small o
+      → effectOf (record { layout = y; image = m; state = st; frame = f; fresh = fresh }) o .code ≡ code.Nothing
+      → Plan y m (effectOf (record { layout = y; image = m; state = st; frame = f; fresh = fresh }) o .words)
+  unfolding lockedTo at
+  order-plan st f fresh order.ReqRn h e = no-plan y m
+  order-plan st f fresh (order.Read s) h e = no-plan y m
+  order-plan st f fresh (order.Write s w) h e =
+      let r = write-rows y m hd m (isSecured st) s _ e in
       let p = within-bank y m hd s (r .0) in
-      one-plan y m (store (placeOf y s) (uncovered (k .cover) w)) hd (let u = bank-under (s .bank) (s .pointer + 1) (omega (arith, p)) in omega arith)
-      (bank-sound y m hd q (s .bank) (s .pointer) (uncovered (k .cover) w) (h .0) (p .0)
-      (subst (λ (i : ℕ). mayWrite y m q (s .bank) i ≡ true) (add-zero (s .pointer)) (every-at (λ j. mayWrite y m q (s .bank) (s .pointer + j)) (s .count) (r .2) 0 (omega (arith, h .1))))
-      (λ b i. pc-fits s (uncovered (k .cover) w) 0 (r .3) b (omega arith) (omega (arith, h .1))))
-  order-plan q k f (order.Kill w) h e = kill-plan (k .half)
-  order-plan q k f (order.Lock mask action) h e =
+      one-plan y m (store (placeOf y s) (uncovered (linkOf st .cover) w)) hd (let u = bank-under (s .bank) (s .pointer + 1) (omega (arith, p)) in omega arith)
+      (bank-sound y m hd (isSecured st) (s .bank) (s .pointer) (uncovered (linkOf st .cover) w) (h .0) (p .0)
+      (subst (λ (i : ℕ). mayWrite y m (isSecured st) (s .bank) i ≡ true) (add-zero (s .pointer)) (every-at (λ j. mayWrite y m (isSecured st) (s .bank) (s .pointer + j)) (s .count) (r .2) 0 (omega (arith, h .1))))
+      (λ b i. pc-fits s (uncovered (linkOf st .cover) w) 0 (r .3) b (omega arith) (omega (arith, h .1))))
+  order-plan st f fresh (order.Kill w) h e = kill-plan st f fresh w (linkOf st .half)
+  order-plan st f fresh (order.Lock mask action) h e =
       let r = lock-rows y m hd m mask action e in
       one-plan y m (store (y .status .at) (lockedTo (lockWord y m) mask action)) hd (omega (arith, hd))
       (lock-sound y m hd (lockedTo (lockWord y m) mask action) (locked-lt (lockWord y m) mask action (g .content 0 .lock) (h .1))
       (λ j l p. pair-kept (lockWord y m) (lockedTo (lockWord y m) mask action) j (every-at (λ k. not (pairBreaks (lockWord y m) (lockedTo (lockWord y m) mask action) k)) 5 r j l) p))
-  order-plan q k f (order.Access w) h e = no-plan y m
-  order-plan q k f (order.BlockWrite s p) h e =
-      let r = write-rows y m hd m q s _ e in
-      span-plan q s (fieldAt f (p + 16 * (1 - s .pointer)) 16) (λ j. fieldAt f (p + 16 * j) 16) h (r .0) (r .1, r .2, r .3)
+  order-plan st f fresh (order.Access w) h e = access-plan (at st f fresh) w (linkOf st .half)
+  order-plan st f fresh (order.BlockWrite s p) h e =
+      let r = write-rows y m hd m (isSecured st) s _ e in
+      span-plan (isSecured st) s (fieldAt f (p + 16 * (1 - s .pointer)) 16) (λ j. fieldAt f (p + 16 * j) 16) h (r .0) (r .1, r .2, r .3)
       (λ j l. (let z : j ≡ 1 - s .pointer = omega arith in ap (λ (x : ℕ). fieldAt f (p + 16 * x) 16) z))
-  order-plan q k f (order.BlockErase s) h e = let r = write-rows y m hd m q s 0 e in span-plan q s 0 (λ j. 0) h (r .0) (r .1, r .2, r .3) (λ j l. refl)
-  order-plan q k f (order.ReadPermalock t s) h e = no-plan y m
-  order-plan q k f (order.Permalock t s p) h e = mask-plan s f p (perma-rows y m hd m s f p e)
+  order-plan st f fresh (order.BlockErase s) h e = let r = write-rows y m hd m (isSecured st) s 0 e in span-plan (isSecured st) s 0 (λ j. 0) h (r .0) (r .1, r .2, r .3) (λ j l. refl)
+  order-plan st f fresh (order.ReadPermalock t s) h e = no-plan y m
+  order-plan st f fresh (order.Permalock t s p) h e = mask-plan s f p (perma-rows y m hd m s f p e)
 
   -- those words of an SPI write that may be written
   module _ (at : ℕ) (d : List ℕ) where

@@ -29,21 +29,21 @@ use Rattle.rights.specs.declared.Code.{Code}
 use Rattle.rights.specs.declared.Code.the-variants as code
 use Rattle.rights.specs.Rights.{writeCode}
 use Rattle.stores.specs.Stores.{changeStores}
-use Rattle.tag.specs.declared.Cover.{Cover}
-use Rattle.tag.specs.declared.Cover.the-variants as cover
-use Rattle.tag.specs.declared.Half.{Half}
-use Rattle.tag.specs.declared.Half.the-variants as half
-use Rattle.tag.specs.declared.Part.{Part}
-use Rattle.tag.specs.declared.Part.the-variants as part
-use Rattle.tag.specs.declared.Asks.{Asks}
+use Rattle.states.specs.declared.Cover.{Cover}
+use Rattle.states.specs.declared.Cover.the-variants as cover
+use Rattle.states.specs.declared.Half.{Half}
+use Rattle.states.specs.declared.Half.the-variants as half
+use Rattle.states.specs.declared.Part.{Part}
+use Rattle.states.specs.declared.Part.the-variants as part
+use Rattle.states.specs.declared.Asks.{Asks}
 use Rattle.tag.specs.declared.Register.{Register}
 use Rattle.tag.specs.declared.Power.the-variants as power
-use Rattle.tag.specs.declared.State.{State}
-use Rattle.tag.specs.declared.State.the-variants as state
+use Rattle.states.specs.declared.State.{State}
+use Rattle.states.specs.declared.State.the-variants as state
 use Rattle.tag.specs.declared.Session.{Session}
 use Rattle.tag.specs.Session.{offSession, on}
 use Rattle.tag.specs.Result.{Result, leaves}
-use Rattle.tag.specs.Commands.{isKilled, asks, asksOf, linkOf, isCovered, wrong, wrongBy, killWord, breaks, codeOf, used}
+use Rattle.states.specs.Commands.{isKilled, asks, asksOf, linkOf, isCovered, wrong, wrongBy, killWord, breaks, codeOf, used}
 use Rattle.tag.specs.Table.{Input, input, said, malformed, checksumWrong, broken, errorCode, newState, doneReply, storesOf, isError, replyOr, replyOf, fits, replied, everything, dropped, rows, frameOf, liveOf, isOff, isArbitrate, admitOf}
 use Rattle.tag.specs.Power.{started, powerUpOf}
 use Rattle.tag.specs.Port.{badCount, badData, refusals, transferred, registerTo, withKilled, withUnwritten, someUnwritten, readBits, portWords, askOf, releaseOf, registerOf, readOf, writeOf}

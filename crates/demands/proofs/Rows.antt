@@ -26,11 +26,12 @@ use Rattle.rights.specs.declared.Code.{Code}
 use Rattle.rights.specs.declared.Code.the-variants as code
 use Rattle.stores.specs.Stores.{changeStores}
 use Rattle.tag.specs.declared.Session.{Session}
-use Rattle.tag.specs.Result.{Result}
-use Rattle.tag.specs.Commands.{isKilled, linkOf, isSecured}
+use Rattle.tag.specs.Result.{Result, gives}
+use Rattle.states.specs.Commands.{isKilled, linkOf}
+use Rattle.plans.specs.Effects.{Effect}
 use Rattle.tag.specs.Session.{offSession}
-use Rattle.tag.specs.Table.{Input, input, said, isOff, liveOf, broken, errorCode, doneReply, doneWords, replyOr, isError, newState, replyOf, fits, storesOf, replied, cut, rows, frameOf}
-use Rattle.tag.specs.Port.{badCount, badData, portWords, refusals, transferred, registerTo, withKilled, withUnwritten, someUnwritten, writeOf}
+use Rattle.tag.specs.Table.{Input, input, isOff, liveOf, broken, comes, effect, replyOr, isError, replyOf, fits, storesOf, replied, cut, rows, frameOf}
+use Rattle.tag.specs.Port.{badCount, badData, portWords, refusals, registerTo, withKilled, withUnwritten, someUnwritten, writeOf}
 use Rattle.tag.proofs.Plans.{none-or}
 use Rattle.demands.specs.Calls.{Tag, answerOf}
 use Rattle.demands.specs.Demands.{Storing, byRadio, byPort, told}
@@ -128,13 +129,13 @@ module _ (v : Session) (m f : List ℕ) (bits fresh : ℕ) (room : List ℕ) (g 
   front s = take 11 (rows (with-power s))
 
   words : List Store
-  words = doneWords (with-power 0) (said (with-power 0))
+  words = effect (with-power 0) .words
 
   radio : Storing
   radio = byRadio f bits fresh room
 
   ends : ℕ → Result
-  ends s = cond (ltb s (length (storesOf (with-power s)))) (cut (with-power s)) (replied (with-power s) 0 (newState (with-power s) (said (with-power s))) (storesOf (with-power s)))
+  ends s = cond (ltb s (length (storesOf (with-power s)))) (cut (with-power s)) (replied (with-power s) 0 (effect (with-power s) .state) (storesOf (with-power s)))
 
   split : (s : ℕ) → frameOf (with-power s) ≡ first (front s) (ends s)
   unfolding frameOf with-power front ends
@@ -150,22 +151,17 @@ module _ (v : Session) (m f : List ℕ) (bits fresh : ℕ) (room : List ℕ) (g 
     unfolding with-power
     same-broken = heard-same (broken (with-power a)) (broken (with-power b)) refl refl (λ c. refl)
 
-    same-code : (x : Heard) → errorCode (with-power a) x ≡ errorCode (with-power b) x
+    same-comes : (x : Heard) → comes (with-power a) x ≡ comes (with-power b) x
     unfolding with-power
-    same-code = heard-same (errorCode (with-power a)) (errorCode (with-power b)) refl refl (λ c. refl)
+    same-comes = heard-same (comes (with-power a)) (comes (with-power b)) refl refl (λ c. refl)
 
-    same-done : (x : Heard) → doneReply (with-power a) x ≡ doneReply (with-power b) x
+    same-effect : effect (with-power a) ≡ effect (with-power b)
     unfolding with-power
-    same-done = heard-same (doneReply (with-power a)) (doneReply (with-power b)) refl refl (λ c. refl)
-
-    same-words : (x : Heard) → doneWords (with-power a) x ≡ doneWords (with-power b) x
-    unfolding with-power
-    same-words = heard-same (doneWords (with-power a)) (doneWords (with-power b)) refl refl (λ c. refl)
+    same-effect = same-comes (heardOf f bits)
 
     same-reply : replyOf (with-power a) ≡ replyOf (with-power b)
     unfolding with-power
-    same-reply =
-        ap₂ (λ (e : Code) (r : Reply). replyOr e (linkOf (liveOf (v .power) .state) .handle) r) (same-code (heardOf f bits)) (same-done (heardOf f bits))
+    same-reply = ap (λ (x : Effect). replyOr (x .code) (linkOf (liveOf (v .power) .state) .handle) (x .reply)) same-effect
 
     same-front : None (front a) → None (front b)
     unfolding with-power front
@@ -189,7 +185,7 @@ module _ (v : Session) (m f : List ℕ) (bits fresh : ℕ) (room : List ℕ) (g 
                         (
                           sym (same-broken (heardOf f bits)) ∙ r .0,
                           (
-                            ap₂ (λ (e : Code) (q : Reply). isError e && fits q room) (sym (same-code (heardOf f bits))) (sym same-reply) ∙ r .1 .0,
+                            ap₂ (λ (x : Effect) (q : Reply). isError (x .code) && fits q room) (sym same-effect) (sym same-reply) ∙ r .1 .0,
                             (ap (λ (q : Reply). not (fits q room)) (sym same-reply) ∙ r .1 .1 .0, tt),
                           ),
                         ),
@@ -206,13 +202,13 @@ module _ (v : Session) (m f : List ℕ) (bits fresh : ℕ) (room : List ℕ) (g 
   unfolding with-power front words
   words-plan h =
       go (heardOf f bits) refl
-      (no-error (errorCode (with-power 0) (heardOf f bits)) (fits (replyOf (with-power 0)) room) (h .1 .1 .1 .1 .1 .1 .1 .1 .1 .0)
+      (no-error (effect (with-power 0) .code) (fits (replyOf (with-power 0)) room) (h .1 .1 .1 .1 .1 .1 .1 .1 .1 .0)
       (not-false (fits (replyOf (with-power 0)) room) (h .1 .1 .1 .1 .1 .1 .1 .1 .1 .1 .0)))
     where
-      go : (x : Heard) → heardOf f bits ≡ x → errorCode (with-power 0) x ≡ code.Nothing → Plan (layoutOf m) m (doneWords (with-power 0) x)
+      go : (x : Heard) → heardOf f bits ≡ x → comes (with-power 0) x .code ≡ code.Nothing → Plan (layoutOf m) m (comes (with-power 0) x .words)
       go heard.Malformed q e = no-plan (layoutOf m) m
       go heard.Nak q e = no-plan (layoutOf m) m
-      go (heard.Said c) q e = let st = liveOf (v .power) .state in order-plan (layoutOf m) m g (isSecured st) (linkOf st) f (c .order) (said-small f bits c q) e
+      go (heard.Said c) q e = order-plan (layoutOf m) m g (liveOf (v .power) .state) f fresh (c .order) (said-small f bits c q) e
 
   front-idle : None (front 0) → countIn (layoutOf m) m ≡ 0
   unfolding with-power front
@@ -227,13 +223,13 @@ module _ (v : Session) (m f : List ℕ) (bits fresh : ℕ) (room : List ℕ) (g 
         image = λ s.
             ap (λ (r : Result). r .image) (split s ∙ none-first (front s) (ends s) (same-front a s h))
             ∙ ends-image s m (storesOf (with-power s)) (cut (with-power s)) _ refl refl
-            ∙ ap (λ (ws : List Store). after m (take s (changeStores (layoutOf m .work .at) ws))) (same-words s 0 (heardOf f bits));
+            ∙ ap (λ (x : Effect). after m (take s (changeStores (layoutOf m .work .at) (x .words)))) (same-effect s 0);
         stores = λ s.
             ap (λ (r : Result). r .stores) (split s ∙ none-first (front s) (ends s) (same-front a s h))
             ∙ ends-stores s (storesOf (with-power s)) (cut (with-power s)) _ refl refl
-            ∙ ap (λ (ws : List Store). min s (length (changeStores (layoutOf m .work .at) ws))) (same-words s 0 (heardOf f bits));
+            ∙ ap (λ (x : Effect). min s (length (changeStores (layoutOf m .work .at) (x .words)))) (same-effect s 0);
         whole = λ s e.
-            subst (λ (ws : List Store). length (changeStores (layoutOf m .work .at) ws) ≤ s) (same-words s 0 (heardOf f bits))
+            subst (λ (x : Effect). length (changeStores (layoutOf m .work .at) (x .words)) ≤ s) (same-effect s 0)
             (ends-whole s (storesOf (with-power s)) (cut (with-power s)) _ refl
             (sym (ap (λ (r : Result). r .number) (split s ∙ none-first (front s) (ends s) (same-front a s h))) ∙ e));
       }
@@ -263,12 +259,12 @@ module _ (v : Session) (m : List ℕ) (at : ℕ) (d : List ℕ) (g : Good (layou
   stores = changeStores (y .work .at) port-words
 
   lost : ℕ → Result
-  lost s = transferred 11 offSession 0 s (after m (take s stores)) []
+  lost s = gives 11 offSession 0 s (after m (take s stores)) []
 
   made : Result
   made =
       let l = liveOf (v .power) in
-      transferred 0 (registerTo l (cond killed (withKilled (l .register)) (withUnwritten (someUnwritten y m at (length d / 2)) (l .register)))) 0 (length stores) (after m stores) []
+      gives 0 (registerTo l (cond killed (withKilled (l .register)) (withUnwritten (someUnwritten y m at (length d / 2)) (l .register)))) 0 (length stores) (after m stores) []
 
   write-split : (s : ℕ) → writeOf v m at d s ≡ first before (cond (ltb s (length stores)) (lost s) made)
   unfolding writeOf y killed port-words before stores lost made
@@ -318,7 +314,7 @@ module _ (v : Session) (m : List ℕ) (at : ℕ) (d : List ℕ) (g : Good (layou
 
 -- the words that a command stores where it is not refused
 pub wordsOf : Tag → Storing → List Store
-wordsOf t (byRadio f bits fresh room) = doneWords (input (t .session) (t .image) f bits fresh room 0) (heardOf f bits)
+wordsOf t (byRadio f bits fresh room) = effect (input (t .session) (t .image) f bits fresh room 0) .words
 wordsOf t (byPort at d) = portWords (layoutOf (t .image)) (t .image) (isKilled (liveOf (t .session .power) .state)) at d
 
 -- with any power a command is refused, or it acts

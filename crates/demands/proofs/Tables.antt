@@ -23,15 +23,15 @@ use Rattle.replies.proofs.Laws.{packed-none}
 use Rattle.rights.specs.declared.Code.{Code}
 use Rattle.rights.specs.declared.Code.the-variants as code
 use Rattle.stores.specs.Stores.{changeStores, powerStores}
-use Rattle.tag.specs.declared.State.the-variants as state
+use Rattle.states.specs.declared.State.the-variants as state
 use Rattle.tag.specs.declared.Session.{Session}
 use Rattle.tag.specs.Session.{offSession, newSession}
-use Rattle.tag.specs.Result.{Result, leaves}
+use Rattle.tag.specs.Result.{Result, leaves, gives}
 use Rattle.tag.specs.One.{one-outcome}
-use Rattle.tag.specs.Commands.{linkOf, isKilled, used}
+use Rattle.states.specs.Commands.{linkOf, isKilled, used, isArbitrate, isLinked}
 use Rattle.tag.specs.Power.{poweredTo, firstIn, started, powerUpOf}
-use Rattle.tag.specs.Table.{Input, input, said, stateOf, liveOf, isOff, isArbitrate, isError, errorCode, doneReply, newState, replyOr, replyOf, fits, storesOf, movedTo, dropped, replied, rows, frameOf, answered, admitOf}
-use Rattle.tag.specs.Port.{isLinked, heldTo, told, askOf, releaseOf, registerOf, badCount, badData, readBits, portWords, someUnwritten, registerTo, withKilled, withUnwritten, transferred, refusals, readOf, writeOf}
+use Rattle.tag.specs.Table.{Input, input, stateOf, liveOf, isOff, isError, effect, replyOr, replyOf, fits, storesOf, movedTo, dropped, replied, rows, frameOf, answered, admitOf}
+use Rattle.tag.specs.Port.{heldTo, told, askOf, releaseOf, registerOf, badCount, badData, readBits, portWords, someUnwritten, registerTo, withKilled, withUnwritten, refusals, readOf, writeOf}
 use Rattle.demands.specs.Calls.{Call, powerUp, admit, frame, ask, release, register, read, write, Tag, answerOf, sessionIn, imageIn, roomIn, powerIn, storesIn}
 use Rattle.demands.specs.Demands.{refuses, Tabled, Demand1}
 use Rattle.demands.proofs.Rows.{Each, first-each}
@@ -104,12 +104,12 @@ module _ (v : Session) (m f : List ℕ) (bits fresh : ℕ) (room : List ℕ) (s 
   error-same code.Nothing b h r q = absurd (false≢true q)
   error-same (code.Error c) b h r q = refl
 
-  error-row : isError (errorCode handed (said handed)) && fits (replyOf handed) room ≡ true → Tabled tag call (replied handed 10 (used (stateOf handed)) [])
+  error-row : isError (effect handed .code) && fits (replyOf handed) room ≡ true → Tabled tag call (replied handed 10 (used (stateOf handed)) [])
   unfolding tag call handed
   error-row e =
-      let c = errorCode handed (said handed) in
+      let c = effect handed .code in
       let b = fits (replyOf handed) room in
-      let d = doneReply handed (said handed) in
+      let d = effect handed .reply in
       let h = linkOf (stateOf handed) .handle in
       record {
         listed = lit≤ tt;
@@ -163,8 +163,8 @@ module _ (v : Session) (m f : List ℕ) (bits fresh : ℕ) (room : List ℕ) (s 
   frame-tabled : Tabled tag call (frameOf handed)
   unfolding frameOf tag call handed
   frame-tabled =
-      first-each (Tabled tag call) (rows handed) (replied handed 0 (newState handed (said handed)) (storesOf handed)) frame-rows
-      (zero-answer tag call (replied handed 0 (newState handed (said handed)) (storesOf handed)) refl (silence m room (replyOf handed)))
+      first-each (Tabled tag call) (rows handed) (replied handed 0 (effect handed .state) (storesOf handed)) frame-rows
+      (zero-answer tag call (replied handed 0 (effect handed .state) (storesOf handed)) refl (silence m room (replyOf handed)))
 
 -- the rows before a transfer's own
 module _ (v : Session) (m : List ℕ) where
@@ -195,8 +195,8 @@ module _ (v : Session) (m : List ℕ) where
       let killed = isKilled (l .state) in
       let stores = changeStores (y .work .at) (portWords y m killed at d) in
       first-each (Tabled tag-of c)
-      (refusals v m [] (badData y at d) ++ ((transferred 11 offSession 0 s (after m (take s stores)) [], ltb s (length stores)) ∷ []))
-      (transferred 0 (registerTo l (cond killed (withKilled (l .register)) (withUnwritten (someUnwritten y m at (length d / 2)) (l .register)))) 0 (length stores) (after m stores) [])
+      (refusals v m [] (badData y at d) ++ ((gives 11 offSession 0 s (after m (take s stores)) [], ltb s (length stores)) ∷ []))
+      (gives 0 (registerTo l (cond killed (withKilled (l .register)) (withUnwritten (someUnwritten y m at (length d / 2)) (l .register)))) 0 (length stores) (after m stores) [])
       (λ e. refusal tag-of c 1 refl, (λ e. refusal tag-of c 2 refl, (λ e. refusal tag-of c 3 refl, (λ e. refusal tag-of c 5 refl, (λ e. refusal tag-of c 6 refl, (λ e. refusal tag-of c 13 refl, (λ e. lost-answer tag-of c (ltb-true _ _ e), tt)))))))
       (zero-answer tag-of c _ refl (λ q. refl))
 

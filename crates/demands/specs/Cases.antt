@@ -19,7 +19,7 @@ use Rattle.replies.specs.Pack.{filled, packed}
 use Rattle.replies.specs.Replies.{checked}
 use Rattle.rights.specs.Rights.{writeCode, lockedTo, lockCode}
 use Rattle.stores.specs.Stores.{powerStores}
-use Rattle.tag.specs.declared.State.the-variants as state
+use Rattle.states.specs.declared.State.the-variants as state
 use Rattle.tag.specs.Result.{Result}
 use Rattle.tag.specs.Power.{started, powerUpOf}
 use Rattle.tag.specs.Table.{liveOf, frameOf}

@@ -26,21 +26,21 @@ use Rattle.replies.specs.Pack.{packed}
 use Rattle.rights.specs.declared.Code.the-variants as code
 use Rattle.rights.specs.Rights.{bankOf, spanWords, readCode, writeCode, lockedTo, lockCode, permaReadCode, permaCode}
 use Rattle.stores.specs.Stores.{changeStores, powerStores}
-use Rattle.tag.specs.declared.Cover.{Cover}
-use Rattle.tag.specs.declared.Cover.the-variants as cover
-use Rattle.tag.specs.declared.Half.{Half}
-use Rattle.tag.specs.declared.Half.the-variants as half
-use Rattle.tag.specs.declared.Link.{Link}
+use Rattle.states.specs.declared.Cover.{Cover}
+use Rattle.states.specs.declared.Cover.the-variants as cover
+use Rattle.states.specs.declared.Half.{Half}
+use Rattle.states.specs.declared.Half.the-variants as half
+use Rattle.states.specs.declared.Link.{Link}
 use Rattle.tag.specs.declared.Register.{Register}
-use Rattle.tag.specs.declared.State.{State}
-use Rattle.tag.specs.declared.State.the-variants as state
+use Rattle.states.specs.declared.State.{State}
+use Rattle.states.specs.declared.State.the-variants as state
 use Rattle.tag.specs.declared.Session.{Session}
 use Rattle.tag.specs.Session.{offSession, on, clear}
-use Rattle.tag.specs.Result.{Result, leaves}
-use Rattle.tag.specs.Commands.{accessWord, killWord, zeroKill, zeroAccess, isKilled}
+use Rattle.tag.specs.Result.{Result, leaves, gives}
+use Rattle.states.specs.Commands.{accessWord, killWord, zeroKill, zeroAccess, isKilled, isLinked}
 use Rattle.tag.specs.Power.{poweredTo}
 use Rattle.tag.specs.Table.{answered}
-use Rattle.tag.specs.Port.{isLinked, numberIn, writtenWords, someUnwritten, transferred, withUnwritten, withKilled}
+use Rattle.tag.specs.Port.{numberIn, writtenWords, someUnwritten, withUnwritten, withKilled}
 use Rattle.demands.specs.Calls.{powerUp, frame, Program, asked, Idle}
 use Rattle.demands.specs.Calls as call
 
@@ -157,14 +157,14 @@ pub record Engine (A : Program) (y : Layout) (m : List ℕ) (st : State) (r : Re
       ≡ record { number = 0; session = on st true clear; reply = 0; stores = 0; value = numberIn r; image = []; room = [] }
   -- the words of USER, high byte first
   pub read : (at n : ℕ) (room : List ℕ) → isKilled st ≡ false → 1 ≤ n → n ≤ 255 → at + n ≤ y .user .words → 2 * n ≤ length room
-      → asked A (on st true r) m (call.read at n room) ≡ transferred 0 (on st true r) (16 * n) 0 m (packed (wordsBits m (y .user .at + at) n) room)
+      → asked A (on st true r) m (call.read at n room) ≡ gives 0 (on st true r) (16 * n) 0 m (packed (wordsBits m (y .user .at + at) n) room)
   -- the writable words, as one change; bit 1 where some word wasn't written
   pub write : (at : ℕ) (d : List ℕ) (n s : ℕ) → isKilled st ≡ false → length d ≡ 2 * n → 1 ≤ n → n ≤ 255 → at + n ≤ y .user .words → n ≤ pairsIn y
       → let stores = changeStores (y .work .at) (writtenWords y m at d n) in length stores ≤ s
-      → asked A (on st true r) m (call.write at d s) ≡ transferred 0 (on st true (withUnwritten (someUnwritten y m at n) r)) 0 (length stores) (after m stores) []
+      → asked A (on st true r) m (call.write at d s) ≡ gives 0 (on st true (withUnwritten (someUnwritten y m at n) r)) 0 (length stores) (after m stores) []
   -- when Killed: zeros, and nothing stored; bit 0 is set
   pub read-killed : (at n : ℕ) (room : List ℕ) → isKilled st ≡ true → 1 ≤ n → n ≤ 255 → at + n ≤ y .user .words → 2 * n ≤ length room
-      → asked A (on st true r) m (call.read at n room) ≡ transferred 0 (on st true (withKilled r)) (16 * n) 0 m (packed (replicate (16 * n) 0) room)
+      → asked A (on st true r) m (call.read at n room) ≡ gives 0 (on st true (withKilled r)) (16 * n) 0 m (packed (replicate (16 * n) 0) room)
   pub write-killed : (at : ℕ) (d : List ℕ) (n s : ℕ) → isKilled st ≡ true → length d ≡ 2 * n → 1 ≤ n → n ≤ 255 → at + n ≤ y .user .words → n ≤ pairsIn y
       → asked A (on st true r) m (call.write at d s) ≡ leaves 0 (on st true (withKilled r)) m []
 

@@ -17,12 +17,12 @@ use Rattle.replies.specs.Replies.{replyBits}
 use Rattle.replies.specs.Pack.{packed}
 use Rattle.rights.specs.Rights.{pwdBit, permaBit}
 use Rattle.stores.specs.Cuts.{Cut, reaches}
-use Rattle.tag.specs.declared.State.the-variants as state
+use Rattle.states.specs.declared.State.the-variants as state
 use Rattle.tag.specs.declared.Session.{Session}
 use Rattle.tag.specs.declared.Outcome.{Outcome}
 use Rattle.tag.specs.Session.{offSession}
 use Rattle.tag.specs.Result.{Result, leaves}
-use Rattle.tag.specs.Commands.{linkOf, used}
+use Rattle.states.specs.Commands.{linkOf, used}
 use Rattle.tag.specs.Table.{liveOf, replyOr, movedTo}
 use Rattle.demands.specs.Calls.{Call, powerUp, frame, write, Tag, Program, asked, Meets, sessionIn, imageIn, roomIn, powerIn, storesIn, codeIn, imageAfter, torn, Turn, run, Idle}
 

@@ -17,7 +17,7 @@ use Rattle.stores.specs.Stores.{powerStores}
 use Rattle.stores.specs.Cuts.{withByte}
 use Rattle.tag.specs.Result.{Result}
 use Rattle.tag.specs.Power.{started, powerUpOf}
-use Rattle.tag.specs.Table.{Input, input, said, everything, doneWords, storesOf, frameOf}
+use Rattle.tag.specs.Table.{Input, input, everything, effect, storesOf, frameOf}
 use Rattle.demands.specs.Worked.{write3, readTwo, secured, sent-cases}
 
 -- a program for frames, and the promise of `frame`
@@ -58,7 +58,7 @@ idling i = withImage (i .image) (frameOf i)
 
 -- all right, but the words come first and the staging is a sham behind them
 abbrev pub shamming : Program
-shamming i = withImage (after (i .image) (take (i .power) (doneWords i (said i) ++ storesOf i))) (frameOf i)
+shamming i = withImage (after (i .image) (take (i .power) (effect i .words ++ storesOf i))) (frameOf i)
 
 -- all right, but the stores made are invented
 abbrev pub inventing : ℕ → Program

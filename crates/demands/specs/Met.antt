@@ -28,9 +28,9 @@ use Rattle.rights.specs.Rights.{readCode, writeCode, lockedTo, lockCode, permaR
 use Rattle.stores.specs.Stores.{powerStores}
 use Rattle.stores.specs.Worked.{worked-bytes}
 use Rattle.tag.specs.declared.Answer.the-variants as answer
-use Rattle.tag.specs.declared.State.the-variants as state
+use Rattle.states.specs.declared.State.the-variants as state
 use Rattle.tag.specs.declared.Outcome.{Outcome}
-use Rattle.tag.specs.Commands.{zeroKill}
+use Rattle.states.specs.Commands.{zeroKill}
 use Rattle.tag.specs.Power.{started, powerUpOf}
 use Rattle.tag.specs.Table.{frameOf}
 use Rattle.tag.specs.Port.{writeOf}

@@ -12,14 +12,14 @@ use Rattle.image.specs.Content.{rulesHold, contentGood}
 use Rattle.image.specs.Worked.{worked, workedLayout, bytesOf}
 use Rattle.replies.specs.Pack.{filled, packed}
 use Rattle.stores.specs.Stores.{changeStores}
-use Rattle.tag.specs.declared.State.{State}
-use Rattle.tag.specs.declared.State.the-variants as state
+use Rattle.states.specs.declared.State.{State}
+use Rattle.states.specs.declared.State.the-variants as state
 use Rattle.tag.specs.declared.Session.{Session}
 use Rattle.tag.specs.declared.Outcome.{Outcome}
 use Rattle.tag.specs.Session.{offSession, on, newSession}
-use Rattle.tag.specs.Result.{Result, result}
+use Rattle.tag.specs.Result.{Result, result, gives}
 use Rattle.tag.specs.Table.{answered}
-use Rattle.tag.specs.Port.{transferred, writtenWords, askOf, releaseOf, registerOf, readOf, writeOf}
+use Rattle.tag.specs.Port.{writtenWords, askOf, releaseOf, registerOf, readOf, writeOf}
 
 -- a session that holds the port, with its register's two bits
 abbrev pub holding : State → Bool → Bool → Session
@@ -46,19 +46,19 @@ p12Stores =
 pub record Writes : Type 0 where
   pub p12-stores : changeStores 45 (writtenWords workedLayout locked 2 fourWords 4) ≡ p12Stores
   pub p12 : writeOf (holding state.Arbitrate false false) locked 2 fourWords 8
-      ≡ transferred 0 (holding state.Arbitrate true false) 0 8 (after locked p12Stores) []
+      ≡ gives 0 (holding state.Arbitrate true false) 0 8 (after locked p12Stores) []
   pub power-7 : writeOf (holding state.Arbitrate false false) locked 2 fourWords 7
-      ≡ transferred 11 offSession 0 7 (after locked (take 7 p12Stores)) []
-  pub killed : writeOf (holding state.Killed false false) locked 2 fourWords 8 ≡ transferred 0 (holding state.Killed false true) 0 0 locked []
+      ≡ gives 11 offSession 0 7 (after locked (take 7 p12Stores)) []
+  pub killed : writeOf (holding state.Killed false false) locked 2 fourWords 8 ≡ gives 0 (holding state.Killed false true) 0 0 locked []
   pub password : writeOf (holding state.Arbitrate false false) (withWord worked 21 1) 2 fourWords 14
-      ≡ transferred 0 (holding state.Arbitrate true false) 0 0 (withWord worked 21 1) []
+      ≡ gives 0 (holding state.Arbitrate true false) 0 0 (withWord worked 21 1) []
   pub user-10 : writeOf (holding state.Arbitrate false false) (withWord worked 16 0x002) 2 fourWords 14
-      ≡ transferred 0 (holding state.Arbitrate true false) 0 0 (withWord worked 16 0x002) []
-  pub nothing : writeOf (holding state.Arbitrate false false) locked 2 [] 8 ≡ transferred 13 (holding state.Arbitrate false false) 0 0 locked []
-  pub odd : writeOf (holding state.Arbitrate false false) locked 2 (1 ∷ 2 ∷ 3 ∷ []) 8 ≡ transferred 13 (holding state.Arbitrate false false) 0 0 locked []
-  pub last : writeOf (holding state.Arbitrate false false) worked 12 fourWords 13 ≡ transferred 11 offSession 0 13 (after worked (take 13 (changeStores 45 (writtenWords workedLayout worked 12 fourWords 4)))) []
-  pub past : writeOf (holding state.Arbitrate false false) locked 13 fourWords 14 ≡ transferred 13 (holding state.Arbitrate false false) 0 0 locked []
-  pub free : writeOf (newSession state.Arbitrate) locked 2 fourWords 8 ≡ transferred 6 (newSession state.Arbitrate) 0 0 locked []
+      ≡ gives 0 (holding state.Arbitrate true false) 0 0 (withWord worked 16 0x002) []
+  pub nothing : writeOf (holding state.Arbitrate false false) locked 2 [] 8 ≡ gives 13 (holding state.Arbitrate false false) 0 0 locked []
+  pub odd : writeOf (holding state.Arbitrate false false) locked 2 (1 ∷ 2 ∷ 3 ∷ []) 8 ≡ gives 13 (holding state.Arbitrate false false) 0 0 locked []
+  pub last : writeOf (holding state.Arbitrate false false) worked 12 fourWords 13 ≡ gives 11 offSession 0 13 (after worked (take 13 (changeStores 45 (writtenWords workedLayout worked 12 fourWords 4)))) []
+  pub past : writeOf (holding state.Arbitrate false false) locked 13 fourWords 14 ≡ gives 13 (holding state.Arbitrate false false) 0 0 locked []
+  pub free : writeOf (newSession state.Arbitrate) locked 2 fourWords 8 ≡ gives 6 (newSession state.Arbitrate) 0 0 locked []
 
 pub writes : Writes
 unfolding writeOf layoutOf headerGood blocksIn contentGood rulesHold worked wordAt withWord
@@ -79,14 +79,14 @@ writes =
 
 pub record Reads : Type 0 where
   pub shows : readOf (holding state.Arbitrate false false) worked 2 2 (replicate 5 0xFF)
-      ≡ transferred 0 (holding state.Arbitrate false false) 32 0 worked (0 ∷ 6 ∷ 0 ∷ 10 ∷ 0xFF ∷ [])
+      ≡ gives 0 (holding state.Arbitrate false false) 32 0 worked (0 ∷ 6 ∷ 0 ∷ 10 ∷ 0xFF ∷ [])
   pub killed : readOf (holding state.Killed false false) worked 2 2 (replicate 5 0xFF)
-      ≡ transferred 0 (holding state.Killed false true) 32 0 worked (0 ∷ 0 ∷ 0 ∷ 0 ∷ 0xFF ∷ [])
-  pub nothing : readOf (holding state.Arbitrate false false) worked 2 0 [] ≡ transferred 13 (holding state.Arbitrate false false) 0 0 worked []
-  pub past : readOf (holding state.Arbitrate false false) worked 15 2 [] ≡ transferred 13 (holding state.Arbitrate false false) 0 0 worked []
-  pub over-255 : readOf (holding state.Arbitrate false false) worked 0 256 [] ≡ transferred 13 (holding state.Arbitrate false false) 0 0 worked []
+      ≡ gives 0 (holding state.Killed false true) 32 0 worked (0 ∷ 0 ∷ 0 ∷ 0 ∷ 0xFF ∷ [])
+  pub nothing : readOf (holding state.Arbitrate false false) worked 2 0 [] ≡ gives 13 (holding state.Arbitrate false false) 0 0 worked []
+  pub past : readOf (holding state.Arbitrate false false) worked 15 2 [] ≡ gives 13 (holding state.Arbitrate false false) 0 0 worked []
+  pub over-255 : readOf (holding state.Arbitrate false false) worked 0 256 [] ≡ gives 13 (holding state.Arbitrate false false) 0 0 worked []
   pub no-room : readOf (holding state.Arbitrate false false) worked 2 2 (replicate 3 0xFF)
-      ≡ transferred 4 (holding state.Arbitrate false false) 0 0 worked (replicate 3 0xFF)
+      ≡ gives 4 (holding state.Arbitrate false false) 0 0 worked (replicate 3 0xFF)
 
 pub reads : Reads
 unfolding readOf layoutOf headerGood blocksIn contentGood rulesHold worked wordAt withWord bitsOf wordsBits packed filled

@@ -22,17 +22,17 @@ use Rattle.replies.specs.declared.Reply.the-variants as reply
 use Rattle.replies.specs.Replies.{replyBits}
 use Rattle.replies.specs.Pack.{packed}
 use Rattle.rights.specs.Rights.{bankOf, pwdBit, permaBit, mayRead, mayWrite, lockedTo}
-use Rattle.tag.specs.declared.Cover.{Cover}
-use Rattle.tag.specs.declared.Cover.the-variants as cover
-use Rattle.tag.specs.declared.Half.{Half}
-use Rattle.tag.specs.declared.Half.the-variants as half
+use Rattle.states.specs.declared.Cover.{Cover}
+use Rattle.states.specs.declared.Cover.the-variants as cover
+use Rattle.states.specs.declared.Half.{Half}
+use Rattle.states.specs.declared.Half.the-variants as half
 use Rattle.tag.specs.declared.Register.{Register}
-use Rattle.tag.specs.declared.State.{State}
-use Rattle.tag.specs.declared.State.the-variants as state
+use Rattle.states.specs.declared.State.{State}
+use Rattle.states.specs.declared.State.the-variants as state
 use Rattle.tag.specs.declared.Session.{Session}
 use Rattle.tag.specs.Session.{offSession, on}
 use Rattle.tag.specs.Result.{Result, leaves}
-use Rattle.tag.specs.Commands.{accessWord, killWord}
+use Rattle.states.specs.Commands.{accessWord, killWord}
 use Rattle.demands.specs.Calls.{Call, powerUp, admit, ask, release, register, read, write, Program, asked, Idle}
 use Rattle.demands.specs.Commands.{Air, hears, linked, link, Says}
 

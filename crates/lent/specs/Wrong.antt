@@ -15,8 +15,8 @@ use Rattle.image.specs.Content.{rulesHold, contentGood}
 use Rattle.image.specs.Worked.{worked}
 use Rattle.frames.specs.Frames.{heardOf}
 use Rattle.stores.specs.Stores.{powerStores}
-use Rattle.tag.specs.declared.State.{State}
-use Rattle.tag.specs.declared.State.the-variants as state
+use Rattle.states.specs.declared.State.{State}
+use Rattle.states.specs.declared.State.the-variants as state
 use Rattle.tag.specs.declared.Power.{Power}
 use Rattle.tag.specs.declared.Power.the-variants as power
 use Rattle.tag.specs.declared.Session.{Session}

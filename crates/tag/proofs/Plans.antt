@@ -24,20 +24,23 @@ use Rattle.bits.specs.Words.{Store}
 use Rattle.rights.proofs.Banks.{bank-end as Banks·bank-end}
 use Rattle.rights.specs.declared.Code.{Code}
 use Rattle.rights.specs.declared.Code.the-variants as code
-use Rattle.bits.specs.Bits.{bitAt}
+use Rattle.bits.specs.Bits.{bitAt, fieldAt}
 use Rattle.bits.specs.Below.{every}
 use Rattle.rights.specs.Rights.{bankOf, beyond, mayWrite, badPc, spanWords, readCode, writeCode, lockedTo, pairBreaks, lockCode, notPerma, permaReadCode, permaCode}
 use Rattle.changes.specs.Changes.{Holds}
-use Rattle.tag.specs.declared.Half.{Half}
-use Rattle.tag.specs.declared.Half.the-variants as half
-use Rattle.tag.specs.declared.Link.{Link}
-use Rattle.tag.specs.declared.State.{State}
-use Rattle.tag.specs.declared.Part.the-variants as part
+use Rattle.states.specs.declared.Half.{Half}
+use Rattle.states.specs.declared.Half.the-variants as half
+use Rattle.states.specs.declared.State.{State}
+use Rattle.plans.specs.declared.Plan.{Plan}
+use Rattle.plans.specs.declared.Plan.the-variants as plan
+use Rattle.plans.specs.Effects.{Effect, kill, access, placeOf}
+use Rattle.plans.specs.Steps.{Placed, orError, killBy, planOf}
 use Rattle.tag.specs.declared.Live.{Live}
 use Rattle.frames.specs.declared.Command.{Command}
 use Rattle.tag.specs.Result.{Result, result}
-use Rattle.tag.specs.Commands.{asksOf, linkOf, isSecured, wrongCommand, breaks, codeOf, placeOf}
-use Rattle.tag.specs.Steps.{waiting, gateBy, kept, errorEnd, tellEnd, storeEnd, doneEnd, actOf, byCode, droppedWith, movedWith, orderOf, commandOf}
+use Rattle.states.specs.Commands.{asksOf, linkOf, isSecured, uncovered, wrongCommand, breaks}
+use Rattle.states.specs.Steps.{killCode, accessed}
+use Rattle.tag.specs.Steps.{kept, tellEnd, storeEnd, doneEnd, endBy, sceneOf, droppedWith, movedWith, orderOf, commandOf, Sound, performOf}
 
 -- a row that does not hold, and those after it
 none-row : (b : Bool) (e : ℕ) (rest : Code) → cond b (code.Error e) rest ≡ code.Nothing → (b ≡ false) × (rest ≡ code.Nothing)
@@ -172,74 +175,99 @@ silence-any l w m room s st =
     rw (a, b, packed-none)
 
 -- a change's stores, and what they leave to say
-module _ (l : Live) (w : ℕ) (m room : List ℕ) (s : ℕ) (st : State) (ss : List Store) where
-  pub store-small : length room < 5 → kept 4 l m room ≡ doneEnd l w m room s (reply.Success (linkOf (l .state) .handle)) st ss
+module _ (l : Live) (h w : ℕ) (m room : List ℕ) (s : ℕ) (st : State) (ss : List Store) where
+  pub store-small : length room < 5 → kept 4 l m room ≡ doneEnd l w m room s (reply.Success h) st ss
   unfolding doneEnd
-  store-small h = simp (lt-ltb _ _ h)
+  store-small q = simp (lt-ltb _ _ q)
 
-  module _ {n : List ℕ} {k need : ℕ} (h : 5 ≤ length room) (e : need ≡ length (changeStores w ss)) (p : Made (changeStores w ss) s m n k) where
-    store-cut : ltb s (length (changeStores w ss)) ≡ true → storeEnd l st n room k need s ≡ doneEnd l w m room s (reply.Success (linkOf (l .state) .handle)) st ss
+  module _ {n : List ℕ} {k need : ℕ} (b : 5 ≤ length room) (e : need ≡ length (changeStores w ss)) (p : Made (changeStores w ss) s m n k) where
+    store-cut : ltb s (length (changeStores w ss)) ≡ true → storeEnd l h st n room k need s ≡ doneEnd l w m room s (reply.Success h) st ss
     unfolding storeEnd doneEnd
     store-cut q =
         let c : k ≡ s = omega (arith, p .made, ltb-true s (length (changeStores w ss)) q) in
-        let small : ltb (length room) 5 ≡ false = le-ltb (length room) 5 h in
+        let small : ltb (length room) 5 ≡ false = le-ltb (length room) 5 b in
         rw (e, c, p .image) (simp (small, q))
 
-    store-whole : ltb s (length (changeStores w ss)) ≡ false → storeEnd l st n room k need s ≡ doneEnd l w m room s (reply.Success (linkOf (l .state) .handle)) st ss
+    store-whole : ltb s (length (changeStores w ss)) ≡ false → storeEnd l h st n room k need s ≡ doneEnd l w m room s (reply.Success h) st ss
     unfolding storeEnd doneEnd
     store-whole q =
         let c : k ≡ length (changeStores w ss) = omega (arith, p .made, ltb-false s (length (changeStores w ss)) q) in
         let d : take s (changeStores w ss) ≡ changeStores w ss = take-all s (changeStores w ss) (ltb-false s (length (changeStores w ss)) q) in
-        let small : ltb (length room) 5 ≡ false = le-ltb (length room) 5 h in
+        let small : ltb (length room) 5 ≡ false = le-ltb (length room) 5 b in
         rw (e, c, p .image, d) (simp (small, q))
 
-    pub store-end : storeEnd l st n room k need s ≡ doneEnd l w m room s (reply.Success (linkOf (l .state) .handle)) st ss
+    pub store-end : storeEnd l h st n room k need s ≡ doneEnd l w m room s (reply.Success h) st ss
     store-end = go (ltb s (length (changeStores w ss))) refl
       where
-        go : (b : Bool) → ltb s (length (changeStores w ss)) ≡ b → storeEnd l st n room k need s ≡ doneEnd l w m room s (reply.Success (linkOf (l .state) .handle)) st ss
+        go : (t : Bool) → ltb s (length (changeStores w ss)) ≡ t → storeEnd l h st n room k need s ≡ doneEnd l w m room s (reply.Success h) st ss
         go true q = store-cut q
         go false q = store-whole q
 
--- an order by its error code
-module _ (l : Live) (y : Layout) (m f : List ℕ) (fresh : ℕ) (room : List ℕ) (s : ℕ) (o : Order) where
-  pub order-done : codeOf y m (isSecured (l .state)) (linkOf (l .state)) f o ≡ code.Nothing → actOf l y m f fresh room s o ≡ orderOf l y m f fresh room s o
-  order-done e = sym (ap (λ (c : Code). byCode c l y m f fresh room s o) e)
+-- a plan that an order comes to can be performed
+module _ (w n : ℕ) where
+  code-sound : (c : Code) (p : Plan) → (c ≡ code.Nothing → Sound w n p) → Sound w n (orError c p)
+  code-sound code.Nothing p h = h refl
+  code-sound (code.Error e) p h = tt
 
-  pub order-error : (e : ℕ) → codeOf y m (isSecured (l .state)) (linkOf (l .state)) f o ≡ code.Error e → errorEnd l m room e ≡ orderOf l y m f fresh room s o
-  order-error e h = sym (ap (λ (c : Code). byCode c l y m f fresh room s o) h)
+module _ (y : Layout) (m f : List ℕ) (st : State) (g : Header y m) where
+  kill-sound : (h : ℕ) (half : Half) → Sound (y .work .at) (length m) (killBy y st h half)
+  kill-sound h half.Nothing = tt
+  kill-sound h (half.Access up) = tt
+  kill-sound h (half.Kill up) = killed-held y m g
 
--- orders that do the same come to the same
-pub same-order : (e : Code) (l : Live) (y : Layout) (m room f f₁ : List ℕ) (fresh fresh₁ s s₁ : ℕ) (o o₁ : Order) → actOf l y m f fresh room s o ≡ actOf l y m f₁ fresh₁ room s₁ o₁
-    → byCode e l y m f fresh room s o ≡ byCode e l y m f₁ fresh₁ room s₁ o₁
-same-order code.Nothing l y m room f f₁ fresh fresh₁ s s₁ o o₁ h = h
-same-order (code.Error e) l y m room f f₁ fresh fresh₁ s s₁ o o₁ h = refl
+  pub plan-sound : (fresh : ℕ) (o : Order) → Placed o → Sound (y .work .at) (length m) (planOf y m f fresh st o)
+  plan-sound fresh order.ReqRn q = tt
+  plan-sound fresh (order.Read s) q = code-sound _ _ (readCode y m (isSecured st) s) _ (read-fits y m g m (isSecured st) s)
+  plan-sound fresh (order.Write s w) q = code-sound _ _ (writeCode y m (isSecured st) s (uncovered (linkOf st .cover) w)) _ (word-held y m g m (isSecured st) s _)
+  plan-sound fresh (order.Kill h) q = code-sound _ _ (killCode y m (linkOf st .half)) _ (λ e. kill-sound h (linkOf st .half))
+  plan-sound fresh (order.Lock mask action) q = code-sound _ _ (lockCode y m mask action) _ (λ e. lock-held y m g)
+  plan-sound fresh (order.Access h) q = tt
+  plan-sound fresh (order.BlockWrite s p) q = code-sound _ _ (writeCode y m (isSecured st) s (fieldAt f (p + 16 * (1 - s .pointer)) 16)) _ (λ e. (words-held y m g m (isSecured st) s _ e, q))
+  plan-sound fresh (order.BlockErase s) q = code-sound _ _ (writeCode y m (isSecured st) s 0) _ (words-held y m g m (isSecured st) s 0)
+  plan-sound fresh (order.ReadPermalock r s) q = code-sound _ _ (permaReadCode y s) _ (read-perma-fits y m g m (isSecured st) s)
+  plan-sound fresh (order.Permalock r s p) q =
+      code-sound _ _ (permaCode y m s f p) _ (λ e. let h = mask-held y m g m (isSecured st) s f p e in (h .0, q, h .1))
 
--- the gate's number, and which test it is of
-pub gate-wrong : (a b : Bool) {n : ℕ} → n ≡ gateBy a b → n ≡ 9 → a ≡ true
-gate-wrong true b e h = refl
-gate-wrong false true e h = absurd (omega arith)
-gate-wrong false false e h = absurd (omega arith)
+-- and comes to what the table says of the order
+module _ (l : Live) (y : Layout) (m f : List ℕ) (fresh : ℕ) (room : List ℕ) (s : ℕ) where
+  handle : ℕ
+  handle = linkOf (l .state) .handle
 
-pub gate-broken : (a b : Bool) {n : ℕ} → n ≡ gateBy a b → (n ≡ 9 → ⊥) → (n ≡ 0 → ⊥) → (a ≡ false) × (b ≡ true)
-gate-broken true b e p q = absurd (p e)
-gate-broken false true e p q = (refl, refl)
-gate-broken false false e p q = absurd (q e)
+  perform : Plan → Result
+  perform p = performOf l handle y m f room s p
 
-pub gate-open : (a b : Bool) {n : ℕ} → n ≡ gateBy a b → n ≡ 0 → (a ≡ false) × (b ≡ false)
-gate-open true b e h = absurd (omega arith)
-gate-open false true e h = absurd (omega arith)
-gate-open false false e h = (refl, refl)
+  ends : Code → Effect → Result
+  ends c x = endBy c l (y .work .at) m room s x
 
--- what breaks halves, for orders that have no part in a password
-pub breaks-number : (y : Layout) (m : List ℕ) (k : Link) (h : Half) → breaks y m k h part.Number ≡ false
-breaks-number y m k half.Nothing = refl
-breaks-number y m k (half.Access up) = refl
-breaks-number y m k (half.Kill up) = refl
+  code-performs : (c : Code) (p : Plan) (x : Effect) → perform p ≡ doneEnd l (y .work .at) m room s (x .reply) (x .state) (x .words) → perform (orError c p) ≡ ends c x
+  unfolding handle perform ends
+  code-performs code.Nothing p x h = h
+  code-performs (code.Error e) p x h = refl
 
-pub breaks-other : (y : Layout) (m : List ℕ) (k : Link) (h : Half) → breaks y m k h part.Other ≡ waiting h
-breaks-other y m k half.Nothing = refl
-breaks-other y m k (half.Access up) = refl
-breaks-other y m k (half.Kill up) = refl
+  kill-performs : (h : ℕ) (a : Half) → perform (orError (killCode y m a) (killBy y (l .state) h a)) ≡ (let x = kill (sceneOf l y m f fresh) h a in ends (x .code) x)
+  unfolding handle perform ends
+  kill-performs h half.Nothing = code-performs (killCode y m half.Nothing) _ (kill (sceneOf l y m f fresh) h half.Nothing) refl
+  kill-performs h (half.Access up) = refl
+  kill-performs h (half.Kill up) = refl
+
+  access-performs : (h : ℕ) (a : Half) → perform (plan.Number (accessed (l .state) h a) handle) ≡ (let x = access (sceneOf l y m f fresh) h a in ends (x .code) x)
+  unfolding handle perform ends
+  access-performs h half.Nothing = refl
+  access-performs h (half.Access up) = refl
+  access-performs h (half.Kill up) = refl
+
+  pub plan-performs : (o : Order) → performOf l (linkOf (l .state) .handle) y m f room s (planOf y m f fresh (l .state) o) ≡ orderOf l y m f fresh room s o
+  unfolding handle perform ends
+  plan-performs order.ReqRn = refl
+  plan-performs (order.Read p) = code-performs (readCode y m (isSecured (l .state)) p) _ _ refl
+  plan-performs (order.Write p w) = code-performs (writeCode y m (isSecured (l .state)) p (uncovered (linkOf (l .state) .cover) w)) _ _ refl
+  plan-performs (order.Kill h) = kill-performs h (linkOf (l .state) .half)
+  plan-performs (order.Lock mask action) = code-performs (lockCode y m mask action) _ _ refl
+  plan-performs (order.Access h) = access-performs h (linkOf (l .state) .half)
+  plan-performs (order.BlockWrite p b) = code-performs (writeCode y m (isSecured (l .state)) p (fieldAt f (b + 16 * (1 - p .pointer)) 16)) _ _ refl
+  plan-performs (order.BlockErase p) = code-performs (writeCode y m (isSecured (l .state)) p 0) _ _ refl
+  plan-performs (order.ReadPermalock r p) = code-performs (permaReadCode y p) _ _ refl
+  plan-performs (order.Permalock r p b) = code-performs (permaCode y m p f b) _ _ refl
 
 -- a command's three ways: wrong, broken, or by its order
 module _ (l : Live) (y : Layout) (m f : List ℕ) (fresh : ℕ) (room : List ℕ) (s : ℕ) (c : Command) where

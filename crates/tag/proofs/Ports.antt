@@ -36,11 +36,11 @@ use Rattle.tag.specs.declared.Power.{Power}
 use Rattle.tag.specs.declared.Power.the-variants as power
 use Rattle.tag.specs.declared.Session.{Session}
 use Rattle.tag.specs.Session.{offSession}
-use Rattle.tag.specs.Result.{Result, leaves}
-use Rattle.tag.specs.Commands.{isKilled, accessWord}
+use Rattle.tag.specs.Result.{Result, leaves, gives}
+use Rattle.states.specs.Commands.{isKilled, accessWord}
 use Rattle.tag.specs.Table.{isOff, liveOf}
 use Rattle.tag.specs.Steps.{kept, neededFor, onSession}
-use Rattle.tag.specs.Port.{bitOf, registerTo, withKilled, withUnwritten, transferred, badCount, badData, readBits, readOf, portOpen, portWrites, writtenWords, portWords, someUnwritten, writeOf}
+use Rattle.tag.specs.Port.{bitOf, registerTo, withKilled, withUnwritten, badCount, badData, readBits, readOf, portOpen, portWrites, writtenWords, portWords, someUnwritten, writeOf}
 use Rattle.tag.specs.PortSteps.{gated, heldRow, endRow, readRow, afterKilled, writeEnd, passing, Masked}
 use Rattle.tag.proofs.Plans.{none-or}
 
@@ -322,13 +322,13 @@ module _ (m : List ℕ) (at count : ℕ) (room : List ℕ) where
       shown-by (power.On l) h false = refl
 
       pub read-shows : (k : Bool) → k ≡ isKilled (liveOf (s .power) .state)
-          → transferred 0 (cond k (afterKilled (s .power)) s) (16 * count) 0 m (packed (readBits (layoutOf m) m k at count) room) ≡ readOf s m at count room
+          → gives 0 (cond k (afterKilled (s .power)) s) (16 * count) 0 m (packed (readBits (layoutOf m) m k at count) room) ≡ readOf s m at count room
       unfolding readOf
       read-shows k e =
           let p = passed in
           let on = none-or (isOff (s .power)) (not (eqb (countIn (layoutOf m) m) 0)) (p .3) .0 in
-          ap (λ (v : Session). transferred 0 v (16 * count) 0 m (packed (readBits (layoutOf m) m k at count) room)) (shown-by (s .power) on k)
-          ∙ ap (λ (b : Bool). transferred 0 (registerTo (liveOf (s .power)) (cond b (withKilled (liveOf (s .power) .register)) (liveOf (s .power) .register))) (16 * count) 0 m (packed (readBits (layoutOf m) m b at count) room)) e
+          ap (λ (v : Session). gives 0 v (16 * count) 0 m (packed (readBits (layoutOf m) m k at count) room)) (shown-by (s .power) on k)
+          ∙ ap (λ (b : Bool). gives 0 (registerTo (liveOf (s .power)) (cond b (withKilled (liveOf (s .power) .register)) (liveOf (s .power) .register))) (16 * count) 0 m (packed (readBits (layoutOf m) m b at count) room)) e
           ∙ go _ _ _ _ _ _ _ _ p
         where
           go : (a b c d e f g : Bool) (t : Result) → (a ≡ false) × (b ≡ false) × (c ≡ false) × (d ≡ false) × (e ≡ false) × (f ≡ false) × (g ≡ false)
@@ -336,14 +336,14 @@ module _ (m : List ℕ) (at count : ℕ) (room : List ℕ) where
           go a b c d e f g t h = rw (h .0, h .1, h .2, h .3, h .4, h .5, h .6)
 
       pub read-killed : (k : Bool) → k ≡ isKilled (liveOf (s .power) .state) → k ≡ true
-          → transferred 0 (afterKilled (s .power)) (16 * count) 0 m (packed (readBits (layoutOf m) m k at count) room) ≡ readOf s m at count room
+          → gives 0 (afterKilled (s .power)) (16 * count) 0 m (packed (readBits (layoutOf m) m k at count) room) ≡ readOf s m at count room
       read-killed k e t =
-          ap (λ (b : Bool). transferred 0 (cond b (afterKilled (s .power)) s) (16 * count) 0 m (packed (readBits (layoutOf m) m k at count) room)) (sym t) ∙ read-shows k e
+          ap (λ (b : Bool). gives 0 (cond b (afterKilled (s .power)) s) (16 * count) 0 m (packed (readBits (layoutOf m) m k at count) room)) (sym t) ∙ read-shows k e
 
       pub read-lives : (k : Bool) → k ≡ isKilled (liveOf (s .power) .state) → k ≡ false
-          → transferred 0 s (16 * count) 0 m (packed (readBits (layoutOf m) m k at count) room) ≡ readOf s m at count room
+          → gives 0 s (16 * count) 0 m (packed (readBits (layoutOf m) m k at count) room) ≡ readOf s m at count room
       read-lives k e t =
-          ap (λ (b : Bool). transferred 0 (cond b (afterKilled (s .power)) s) (16 * count) 0 m (packed (readBits (layoutOf m) m k at count) room)) (sym t) ∙ read-shows k e
+          ap (λ (b : Bool). gives 0 (cond b (afterKilled (s .power)) s) (16 * count) 0 m (packed (readBits (layoutOf m) m k at count) room)) (sym t) ∙ read-shows k e
 
 -- a mask's next byte
 masked-byte : (b : Bool) → eqb (bitOf (not b)) 0 ≡ b
@@ -486,19 +486,19 @@ module _ (y : Layout) (m : List ℕ) (at : ℕ) (closed : portOpen y m ≡ false
 
 -- a write's rows
 module _ (m : List ℕ) (at : ℕ) (d : List ℕ) (s : ℕ) where
-  pub write-short : (v : Session) → short m ≡ true → transferred 1 v 0 0 m [] ≡ writeOf v m at d s
+  pub write-short : (v : Session) → short m ≡ true → gives 1 v 0 0 m [] ≡ writeOf v m at d s
   unfolding writeOf
   write-short v p = rw p
 
-  pub write-header : (v : Session) → short m ≡ false → headerWrong m ≡ true → transferred 2 v 0 0 m [] ≡ writeOf v m at d s
+  pub write-header : (v : Session) → short m ≡ false → headerWrong m ≡ true → gives 2 v 0 0 m [] ≡ writeOf v m at d s
   unfolding writeOf
   write-header v p q = rw (p, q)
 
-  pub write-content : (v : Session) → short m ≡ false → headerWrong m ≡ false → contentBroken m ≡ true → transferred 3 v 0 0 m [] ≡ writeOf v m at d s
+  pub write-content : (v : Session) → short m ≡ false → headerWrong m ≡ false → contentBroken m ≡ true → gives 3 v 0 0 m [] ≡ writeOf v m at d s
   unfolding writeOf
   write-content v p q r = rw (p, q, r)
 
-  pub write-off : short m ≡ false → headerWrong m ≡ false → contentBroken m ≡ false → transferred 5 offSession 0 0 m [] ≡ writeOf offSession m at d s
+  pub write-off : short m ≡ false → headerWrong m ≡ false → contentBroken m ≡ false → gives 5 offSession 0 0 m [] ≡ writeOf offSession m at d s
   unfolding writeOf
   write-off p q r = rw (p, q, r)
 
@@ -515,11 +515,11 @@ module _ (l : Live) (y : Layout) (m : List ℕ) (at : ℕ) (d : List ℕ) (s : �
   stores ss = changeStores (y .work .at) ss
 
   lost : List Store → Result
-  lost ss = transferred 11 offSession 0 s (after m (take s (stores ss))) []
+  lost ss = gives 11 offSession 0 s (after m (take s (stores ss))) []
 
   made : Bool → List Store → Bool → Result
   made k ss u =
-      transferred 0 (registerTo l (cond k (withKilled (l .register)) (withUnwritten u (l .register)))) 0 (length (stores ss)) (after m (stores ss)) []
+      gives 0 (registerTo l (cond k (withKilled (l .register)) (withUnwritten u (l .register)))) 0 (length (stores ss)) (after m (stores ss)) []
 
   ends : Bool → List Store → Bool → Result
   ends k ss u = cond (ltb s (length (stores ss))) (lost ss) (made k ss u)
@@ -535,24 +535,24 @@ module _ (l : Live) (y : Layout) (m : List ℕ) (at : ℕ) (d : List ℕ) (s : �
   unfolding ends stores
   nothing k u = sym (ap (λ (b : Bool). cond b (lost []) (made k [] u)) (le-ltb s 0 (omega arith)))
 
-  pub write-killed : isKilled (l .state) ≡ true → transferred 0 (registerTo l (withKilled (l .register))) 0 0 m [] ≡ writeEnd l y m at d s
+  pub write-killed : isKilled (l .state) ≡ true → gives 0 (registerTo l (withKilled (l .register))) 0 0 m [] ≡ writeEnd l y m at d s
   unfolding made stores
   write-killed e = nothing true (someUnwritten y m at (length d / 2)) ∙ end-is true [] (someUnwritten y m at (length d / 2)) e refl refl
 
   pub write-closed : isKilled (l .state) ≡ false → portOpen y m ≡ false → (length d / 2 ≡ 0 → ⊥)
-      → transferred 0 (registerTo l (withUnwritten true (l .register))) 0 0 m [] ≡ writeEnd l y m at d s
+      → gives 0 (registerTo l (withUnwritten true (l .register))) 0 0 m [] ≡ writeEnd l y m at d s
   unfolding made stores
   write-closed e o n = nothing false true ∙ end-is false [] true e (none-written y m at o d (length d / 2)) (none-unwritten y m at o (length d / 2) n)
 
   module _ (ss : List Store) (u : Bool) (e : isKilled (l .state) ≡ false) (f : writtenWords y m at d (length d / 2) ≡ ss)
       (g : someUnwritten y m at (length d / 2) ≡ u) where
     pub write-cut : s < length (changeStores (y .work .at) ss)
-        → transferred 11 offSession 0 s (after m (take s (changeStores (y .work .at) ss))) [] ≡ writeEnd l y m at d s
+        → gives 11 offSession 0 s (after m (take s (changeStores (y .work .at) ss))) [] ≡ writeEnd l y m at d s
     unfolding ends lost stores
     write-cut h = sym (ap (λ (b : Bool). cond b (lost ss) (made false ss u)) (lt-ltb s (length (stores ss)) h)) ∙ end-is false ss u e f g
 
     pub write-done : length (changeStores (y .work .at) ss) ≤ s
-        → transferred 0 (registerTo l (withUnwritten u (l .register))) 0 (length (changeStores (y .work .at) ss)) (after m (changeStores (y .work .at) ss)) []
+        → gives 0 (registerTo l (withUnwritten u (l .register))) 0 (length (changeStores (y .work .at) ss)) (after m (changeStores (y .work .at) ss)) []
         ≡ writeEnd l y m at d s
     unfolding ends made stores
     write-done h = sym (ap (λ (b : Bool). cond b (lost ss) (made false ss u)) (le-ltb s (length (stores ss)) h)) ∙ end-is false ss u e f g

@@ -3,27 +3,24 @@ use Prim.Native.Nat.{ℕ, zero, suc, _+_, _*_, _/_, _%_}
 use mathlib.Core.Bool.{Bool, true, false, cond, not, _&&_, _||_}
 use mathlib.Core.List.{List, [], _∷_, _++_}
 use lib.Dec.{eqb, ltb}
-use lib.ListN.{length, take, replicate}
+use lib.ListN.{length, replicate}
 use Rattle.bits.specs.Words.{wordAt, Store, store, after}
 use Rattle.bits.specs.Bits.{wordsBits}
 use Rattle.bits.specs.Below.{every}
 use Rattle.bits.specs.First.{first}
 use Rattle.image.specs.declared.Layout.{Layout}
 use Rattle.image.specs.Layout.{layoutOf, pairsIn}
-use Rattle.image.specs.Content.{countIn, lockWord}
-use Rattle.image.specs.Check.{imageRows}
+use Rattle.image.specs.Content.{lockWord}
 use Rattle.rights.specs.Rights.{pwdBit, blockOpen}
 use Rattle.replies.specs.Pack.{packed}
 use Rattle.stores.specs.Stores.{changeStores}
-use Rattle.tag.specs.declared.State.{State}
-use Rattle.tag.specs.declared.State.the-variants as state
 use Rattle.tag.specs.declared.Register.{Register}
 use Rattle.tag.specs.declared.Live.{Live}
 use Rattle.tag.specs.declared.Session.{Session}
-use Rattle.tag.specs.Session.{offSession, on, clear}
-use Rattle.tag.specs.Result.{Result, leaves}
-use Rattle.tag.specs.Commands.{isKilled, zeroAccess}
-use Rattle.tag.specs.Table.{isOff, liveOf, answered}
+use Rattle.tag.specs.Session.{on, clear}
+use Rattle.tag.specs.Result.{Result, gives, leaves, lost}
+use Rattle.states.specs.Commands.{isLinked, isKilled, zeroAccess}
+use Rattle.tag.specs.Table.{isOff, liveOf, firstRows, answered}
 
 -- a session with its port held or free, or with another register
 abbrev pub heldTo : Live → Bool → Session
@@ -33,13 +30,6 @@ abbrev pub registerTo : Live → Register → Session
 registerTo l r = on (l .state) (l .held) r
 
 -- 4.1: asking is granted unless the state is Open or Secured or the port is held
-abbrev pub isLinked : State → Bool
-isLinked state.Arbitrate = false
-isLinked (state.Acknowledged n) = false
-isLinked (state.Open k) = true
-isLinked (state.Secured k) = true
-isLinked state.Killed = false
-
 unfoldable pub askOf : Session → Result
 askOf s =
     let l = liveOf (s .power) in
@@ -75,21 +65,11 @@ withKilled r = record { unwritten = r .unwritten; killed = true }
 abbrev pub withUnwritten : Bool → Register → Register
 withUnwritten b r = record { unwritten = r .unwritten || b; killed = r .killed }
 
--- a transfer's answer, session, reply, stores made, image and room
-abbrev pub transferred : ℕ → Session → ℕ → ℕ → List ℕ → List ℕ → Result
-transferred number session reply stores image room =
-    record { number = number; session = session; reply = reply; stores = stores; value = 0; image = image; room = room }
-
 -- the answers before a transfer's own: what each leaves is everything
 abbrev pub refusals : Session → List ℕ → List ℕ → Bool → List (Result × Bool)
 refusals s m room bad =
-    let l = liveOf (s .power) in
     let everything : ℕ → Result = λ n. leaves n s m room in
-    imageRows everything m
-    ++ (everything 5, isOff (s .power) || not (eqb (countIn (layoutOf m) m) 0))
-    ∷ (everything 6, not (l .held))
-    ∷ (everything 13, bad)
-    ∷ []
+    firstRows everything s m (not (liveOf (s .power) .held)) ++ ((everything 13, bad) ∷ [])
 
 -- count words of USER from word `at` on: none, more than 255, or past its end
 abbrev pub badCount : Layout → ℕ → ℕ → Bool
@@ -106,7 +86,7 @@ readOf s m at count room =
     let y = layoutOf m in
     let killed = isKilled (l .state) in
     first (refusals s m room (badCount y at count) ++ ((leaves 4 s m room, ltb (length room) (2 * count)) ∷ []))
-    (transferred 0 (registerTo l (cond killed (withKilled (l .register)) (l .register))) (16 * count) 0 m (packed (readBits y m killed at count) room))
+    (gives 0 (registerTo l (cond killed (withKilled (l .register)) (l .register))) (16 * count) 0 m (packed (readBits y m killed at count) room))
 
 -- 4.4: the port may write; and a USER word that it may write
 abbrev pub portOpen : Layout → List ℕ → Bool
@@ -141,7 +121,7 @@ writeOf s m at d power =
     let stores = changeStores (y .work .at) (portWords y m killed at d) in
     first
     (refusals s m [] (badData y at d)
-    ++ ((transferred 11 offSession 0 power (after m (take power stores)) [], ltb power (length stores)) ∷ []))
-    (transferred 0
+    ++ ((lost m stores power [], ltb power (length stores)) ∷ []))
+    (gives 0
     (registerTo l (cond killed (withKilled (l .register)) (withUnwritten (someUnwritten y m at (length d / 2)) (l .register))))
     0 (length stores) (after m stores) [])

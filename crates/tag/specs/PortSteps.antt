@@ -16,10 +16,10 @@ use Rattle.tag.specs.declared.Power.{Power}
 use Rattle.tag.specs.declared.Power.the-variants as power
 use Rattle.tag.specs.declared.Session.{Session}
 use Rattle.tag.specs.Session.{offSession}
-use Rattle.tag.specs.Result.{Result}
-use Rattle.tag.specs.Commands.{isKilled}
+use Rattle.tag.specs.Result.{Result, gives}
+use Rattle.states.specs.Commands.{isKilled}
 use Rattle.tag.specs.Steps.{kept}
-use Rattle.tag.specs.Port.{bitOf, registerTo, withKilled, withUnwritten, transferred, badCount, portWords, someUnwritten}
+use Rattle.tag.specs.Port.{bitOf, registerTo, withKilled, withUnwritten, badCount, portWords, someUnwritten}
 
 -- a transfer of a session under power on a good image: 5, 6, 13, or what follows
 unfoldable pub gated : Live → Layout → List ℕ → List ℕ → Bool → Result → Result
@@ -50,8 +50,8 @@ unfoldable pub writeEnd : Live → Layout → List ℕ → ℕ → List ℕ → 
 writeEnd l y m at d power =
     let killed = isKilled (l .state) in
     let stores = changeStores (y .work .at) (portWords y m killed at d) in
-    cond (ltb power (length stores)) (transferred 11 offSession 0 power (after m (take power stores)) [])
-    (transferred 0
+    cond (ltb power (length stores)) (gives 11 offSession 0 power (after m (take power stores)) [])
+    (gives 0
     (registerTo l (cond killed (withKilled (l .register)) (withUnwritten (someUnwritten y m at (length d / 2)) (l .register))))
     0 (length stores) (after m stores) [])
 

@@ -3,7 +3,7 @@ use Prim.Native.Nat.{ℕ}
 use mathlib.Core.Bool.{cond}
 use mathlib.Core.List.{List, []}
 use lib.Dec.{eqb, ltb}
-use lib.ListN.{length, take}
+use lib.ListN.{length}
 use Rattle.bits.specs.Words.{after}
 use Rattle.bits.specs.First.{first}
 use Rattle.image.specs.declared.Layout.{Layout}
@@ -11,16 +11,15 @@ use Rattle.image.specs.Layout.{layoutOf}
 use Rattle.image.specs.Content.{killedWord}
 use Rattle.image.specs.Check.{imageRows}
 use Rattle.stores.specs.Stores.{powerStores}
-use Rattle.tag.specs.declared.State.{State}
-use Rattle.tag.specs.declared.State.the-variants as state
+use Rattle.states.specs.declared.State.{State}
+use Rattle.states.specs.declared.State.the-variants as state
 use Rattle.tag.specs.declared.Session.{Session}
 use Rattle.tag.specs.Session.{offSession, newSession}
-use Rattle.tag.specs.Result.{Result, leaves}
+use Rattle.tag.specs.Result.{Result, gives, leaves, lost}
 
 -- a power-up that stores: its answer, session, stores made and image
 abbrev pub poweredTo : ℕ → Session → ℕ → List ℕ → Result
-poweredTo number session stores image =
-    record { number = number; session = session; reply = 0; stores = stores; value = 0; image = image; room = [] }
+poweredTo number session stores image = gives number session 0 stores image []
 
 -- 2.7: Killed if the image says so, else Arbitrate
 abbrev pub firstIn : Layout → List ℕ → State
@@ -30,7 +29,7 @@ firstIn y m = cond (eqb (killedWord y m) 0) state.Arbitrate state.Killed
 unfoldable pub started : Layout → List ℕ → ℕ → Result
 started y m s =
     let stores = powerStores y m in
-    cond (ltb s (length stores)) (poweredTo 11 offSession s (after m (take s stores)))
+    cond (ltb s (length stores)) (lost m stores s [])
     (poweredTo 0 (newSession (firstIn y (after m stores))) (length stores) (after m stores))
 
 unfoldable pub powerUpOf : List ℕ → ℕ → Result

@@ -1,7 +1,7 @@
 -- Sessions and the numbers of the answer table (RULES 3.1, 3.3 and 5). Assumes nothing.
 use Prim.Native.Nat.{ℕ}
 use mathlib.Core.Bool.{Bool, false}
-use Rattle.tag.specs.declared.State.{State}
+use Rattle.states.specs.declared.State.{State}
 use Rattle.tag.specs.declared.Register.{Register}
 use Rattle.tag.specs.declared.Power.the-variants as power
 use Rattle.tag.specs.declared.Session.{Session}

@@ -1,14 +1,14 @@
 -- Outcomes, plans and the table's ends as the code makes them. Assumes nothing.
-use Prim.Native.Nat.{ℕ, _+_, _*_, _≤_}
-use mathlib.Core.Bool.{Bool, true, false, cond, not}
-use mathlib.Core.List.{List, []}
+use Prim.Native.Nat.{ℕ, _+_, _*_, _≤_, _<_}
+use mathlib.Core.Bool.{cond, not}
+use mathlib.Core.List.{List, [], _∷_}
 use lib.Dec.{eqb, ltb}
-use lib.ListN.{length, take}
-use Rattle.bits.specs.Words.{Store, after}
+use lib.ListN.{length}
+use Rattle.bits.specs.Words.{Store, store, after}
+use Rattle.bits.specs.Below.{below}
 use Rattle.image.specs.declared.Layout.{Layout}
 use Rattle.image.specs.Content.{countIn}
 use Rattle.frames.specs.declared.Order.{Order}
-use Rattle.frames.specs.declared.Order.the-variants as order
 use Rattle.frames.specs.declared.Command.{Command}
 use Rattle.frames.specs.declared.Heard.{Heard}
 use Rattle.frames.specs.declared.Heard.the-variants as heard
@@ -20,10 +20,12 @@ use Rattle.replies.specs.Pack.{packed}
 use Rattle.rights.specs.declared.Code.{Code}
 use Rattle.rights.specs.declared.Code.the-variants as code
 use Rattle.stores.specs.Stores.{changeStores}
-use Rattle.tag.specs.declared.Half.{Half}
-use Rattle.tag.specs.declared.Half.the-variants as half
-use Rattle.tag.specs.declared.State.{State}
-use Rattle.tag.specs.declared.State.the-variants as state
+use Rattle.stores.specs.Steps.{wordFrom}
+use Rattle.changes.specs.Changes.{Holds, orTo}
+use Rattle.plans.specs.declared.Plan.{Plan}
+use Rattle.plans.specs.declared.Plan.the-variants as plan
+use Rattle.states.specs.declared.State.{State}
+use Rattle.states.specs.declared.State.the-variants as state
 use Rattle.tag.specs.declared.Live.{Live}
 use Rattle.tag.specs.declared.Power.the-variants as power
 use Rattle.tag.specs.declared.Session.{Session}
@@ -31,39 +33,14 @@ use Rattle.tag.specs.declared.Answer.{Answer}
 use Rattle.tag.specs.declared.Answer.the-variants as answer
 use Rattle.tag.specs.declared.Outcome.{Outcome}
 use Rattle.tag.specs.Session.{offSession}
-use Rattle.tag.specs.Result.{Result, result}
-use Rattle.tag.specs.Commands.{asksOf, linkOf, isSecured, isKilled, wrongBy, wrongCommand, breaks, codeOf, used, stateAfter, replyAfter, wordsAfter}
+use Rattle.tag.specs.Result.{Result, gives, leaves, lost, result}
+use Rattle.states.specs.Commands.{asksOf, linkOf, isKilled, wrongCommand, breaks, used}
+use Rattle.plans.specs.Effects.{Scene, Effect, effectOf}
 use Rattle.tag.specs.Table.{fits, movedTo}
 
 -- an Off session, after so many stores
 abbrev pub stoppedAt : Answer → ℕ → Outcome
 stoppedAt a k = record { answer = a; session = offSession; reply = 0; stores = k; value = 0 }
-
--- the words of a frame begin in its first bytes
-abbrev pub Placed : Order → Type 0
-Placed order.ReqRn = Unit {0}
-Placed (order.Read s) = Unit {0}
-Placed (order.Write s w) = Unit {0}
-Placed (order.Kill h) = Unit {0}
-Placed (order.Lock m a) = Unit {0}
-Placed (order.Access h) = Unit {0}
-Placed (order.BlockWrite s p) = p ≤ 51
-Placed (order.BlockErase s) = Unit {0}
-Placed (order.ReadPermalock r s) = Unit {0}
-Placed (order.Permalock r s p) = p ≤ 51
-
--- a half waits
-abbrev pub waiting : Half → Bool
-waiting half.Nothing = false
-waiting (half.Access up) = true
-waiting (half.Kill up) = true
-
--- the number of the answer that stops an order before its code: wrong, broken, or none
-abbrev pub gateBy : Bool → Bool → ℕ
-gateBy wrong broken = cond wrong 9 (cond broken 12 0)
-
-abbrev pub gateOf : Layout → List ℕ → State → ℕ → Order → ℕ
-gateOf y m st n o = gateBy (wrongBy st n (asksOf o)) (breaks y m (linkOf st) (linkOf st .half) (asksOf o .part))
 
 -- a session under power
 abbrev pub onSession : Live → Session
@@ -74,87 +51,72 @@ abbrev pub refusedWith : Live → Answer → Outcome
 refusedWith l a = record { answer = a; session = onSession l; reply = 0; stores = 0; value = 0 }
 
 abbrev pub kept : ℕ → Live → List ℕ → List ℕ → Result
-kept n l m room =
-    record { number = n; session = onSession l; reply = 0; stores = 0; value = 0; image = m; room = room }
+kept n l m room = leaves n (onSession l) m room
 
 -- an error's reply, or no room for it
-unfoldable pub errorEnd : Live → List ℕ → List ℕ → ℕ → Result
-errorEnd l m room e =
-    let r = reply.Error e (linkOf (l .state) .handle) in
-    cond (fits r room)
-    (record {
-      number = 10;
-      session = movedTo l (used (l .state));
-      reply = replyLength r;
-      stores = 0;
-      value = 0;
-      image = m;
-      room = packed (replyBits m r) room;
-    })
-    (kept 4 l m room)
+unfoldable pub errorEnd : Live → ℕ → List ℕ → List ℕ → ℕ → Result
+errorEnd l h m room e =
+    let r = reply.Error e h in
+    cond (fits r room) (gives 10 (movedTo l (used (l .state))) (replyLength r) 0 m (packed (replyBits m r) room)) (kept 4 l m room)
 
 -- no room for the reply, too little power, or done; WORK is at word w
 unfoldable pub doneEnd : Live → ℕ → List ℕ → List ℕ → ℕ → Reply → State → List Store → Result
 doneEnd l w m room s r st ss =
     let stores = changeStores w ss in
     cond (not (fits r room)) (kept 4 l m room)
-    (cond (ltb s (length stores))
-    (record {
-      number = 11;
-      session = offSession;
-      reply = 0;
-      stores = s;
-      value = 0;
-      image = after m (take s stores);
-      room = room;
-    })
-    (record {
-      number = 0;
-      session = movedTo l st;
-      reply = replyLength r;
-      stores = length stores;
-      value = 0;
-      image = after m stores;
-      room = packed (replyBits m r) room;
-    }))
+    (cond (ltb s (length stores)) (lost m stores s room)
+    (gives 0 (movedTo l st) (replyLength r) (length stores) (after m stores) (packed (replyBits m r) room)))
 
 -- a reply without a store: no room for it, or done
 abbrev pub tellEnd : Live → List ℕ → List ℕ → Reply → State → Result
 tellEnd l m room r st = doneEnd l 0 m room 0 r st []
 
 -- after so many of the stores that were needed: too little power, or done
-unfoldable pub storeEnd : Live → State → List ℕ → List ℕ → ℕ → ℕ → ℕ → Result
-storeEnd l st m room made need s =
-    let r = reply.Success (linkOf (l .state) .handle) in
-    cond (ltb s need)
-    (record { number = 11; session = offSession; reply = 0; stores = made; value = 0; image = m; room = room })
-    (record {
-      number = 0;
-      session = movedTo l st;
-      reply = replyLength r;
-      stores = made;
-      value = 0;
-      image = m;
-      room = packed (replyBits m r) room;
-    })
+unfoldable pub storeEnd : Live → ℕ → State → List ℕ → List ℕ → ℕ → ℕ → ℕ → Result
+storeEnd l h st m room made need s =
+    let r = reply.Success h in
+    cond (ltb s need) (gives 11 offSession 0 made m room)
+    (gives 0 (movedTo l st) (replyLength r) made m (packed (replyBits m r) room))
 
 -- how many stores a change of c words needs
 abbrev pub neededFor : ℕ → ℕ
 neededFor c = cond (eqb c 0) 0 (3 * c + 2)
 
--- an order that no refusal stops
-unfoldable pub actOf : Live → Layout → List ℕ → List ℕ → ℕ → List ℕ → ℕ → Order → Result
-actOf l y m f fresh room s o =
-    let k = linkOf (l .state) in
-    doneEnd l (y .work .at) m room s (replyAfter y fresh k o) (stateAfter y m fresh (l .state) o) (wordsAfter y m k f o)
+-- a plan that an image of n bytes with WORK at word w can take
+abbrev pub Sound : ℕ → ℕ → Plan → Type 0
+Sound w n (plan.Error e) = Unit {0}
+Sound w n (plan.Silent st) = Unit {0}
+Sound w n (plan.Number st k) = Unit {0}
+Sound w n (plan.Words st at k) = (2 * (at + k) ≤ n) × (k < 65536)
+Sound w n (plan.Word st v at) = Holds w at 1 n
+Sound w n (plan.Bits st at k p) = Holds w at k n × (p ≤ 51)
+Sound w n (plan.Zeros st at k) = Holds w at k n
+Sound w n (plan.Mask st at k p) = Holds w at k n × (p ≤ 51) × (k ≤ 16)
 
--- by its error code
-abbrev pub byCode : Code → Live → Layout → List ℕ → List ℕ → ℕ → List ℕ → ℕ → Order → Result
-byCode code.Nothing l y m f fresh room s o = actOf l y m f fresh room s o
-byCode (code.Error e) l y m f fresh room s o = errorEnd l m room e
+-- what a plan comes to, with this handle
+abbrev pub storedEnd : Live → ℕ → ℕ → List ℕ → List ℕ → ℕ → State → List Store → Result
+storedEnd l h w m room s st ss = doneEnd l w m room s (reply.Success h) st ss
+
+abbrev pub performOf : Live → ℕ → Layout → List ℕ → List ℕ → List ℕ → ℕ → Plan → Result
+performOf l h y m f room s (plan.Error e) = errorEnd l h m room e
+performOf l h y m f room s (plan.Silent st) = doneEnd l (y .work .at) m room s reply.Silence st []
+performOf l h y m f room s (plan.Number st n) = doneEnd l (y .work .at) m room s (reply.Number n) st []
+performOf l h y m f room s (plan.Words st at k) = doneEnd l (y .work .at) m room s (reply.Words at k h) st []
+performOf l h y m f room s (plan.Word st v at) = storedEnd l h (y .work .at) m room s st (store at v ∷ [])
+performOf l h y m f room s (plan.Bits st at n p) = storedEnd l h (y .work .at) m room s st (below (wordFrom at f p) n)
+performOf l h y m f room s (plan.Zeros st at n) = storedEnd l h (y .work .at) m room s st (below (λ j. store (at + j) 0) n)
+performOf l h y m f room s (plan.Mask st at n p) = storedEnd l h (y .work .at) m room s st (below (orTo m f at p) n)
+
+-- an order that no refusal stops, by its error code
+abbrev pub endBy : Code → Live → ℕ → List ℕ → List ℕ → ℕ → Effect → Result
+endBy code.Nothing l w m room s x = doneEnd l w m room s (x .reply) (x .state) (x .words)
+endBy (code.Error e) l w m room s x = errorEnd l (linkOf (l .state) .handle) m room e
+
+abbrev pub sceneOf : Live → Layout → List ℕ → List ℕ → ℕ → Scene
+sceneOf l y m f fresh = record { layout = y; image = m; state = l .state; frame = f; fresh = fresh }
 
 abbrev pub orderOf : Live → Layout → List ℕ → List ℕ → ℕ → List ℕ → ℕ → Order → Result
-orderOf l y m f fresh room s o = byCode (codeOf y m (isSecured (l .state)) (linkOf (l .state)) f o) l y m f fresh room s o
+orderOf l y m f fresh room s o = let x = effectOf (sceneOf l y m f fresh) o in endBy (x .code) l (y .work .at) m room s x
 
 abbrev pub droppedWith : Live → Outcome
 droppedWith l = record { answer = answer.Password; session = movedTo l state.Arbitrate; reply = 0; stores = 0; value = 0 }

@@ -3,7 +3,7 @@ use Prim.Native.Nat.{ℕ}
 use mathlib.Core.Bool.{Bool, true, false, not, _&&_, _||_}
 use mathlib.Core.List.{List, [], _∷_, _++_}
 use lib.Dec.{eqb, ltb}
-use lib.ListN.{length, take}
+use lib.ListN.{length}
 use Rattle.bits.specs.Words.{Store, after}
 use Rattle.bits.specs.First.{first}
 use Rattle.image.specs.declared.Layout.{Layout}
@@ -20,15 +20,16 @@ use Rattle.replies.specs.Pack.{packed}
 use Rattle.rights.specs.declared.Code.{Code}
 use Rattle.rights.specs.declared.Code.the-variants as code
 use Rattle.stores.specs.Stores.{changeStores}
-use Rattle.tag.specs.declared.State.{State}
-use Rattle.tag.specs.declared.State.the-variants as state
+use Rattle.states.specs.declared.State.{State}
+use Rattle.states.specs.declared.State.the-variants as state
 use Rattle.tag.specs.declared.Live.{Live}
 use Rattle.tag.specs.declared.Power.{Power}
 use Rattle.tag.specs.declared.Power.the-variants as power
 use Rattle.tag.specs.declared.Session.{Session}
-use Rattle.tag.specs.Session.{offSession, on, clear}
-use Rattle.tag.specs.Result.{Result, leaves}
-use Rattle.tag.specs.Commands.{asksOf, linkOf, isSecured, wrong, breaks, codeOf, used, stateAfter, replyAfter, wordsAfter}
+use Rattle.tag.specs.Session.{on, clear}
+use Rattle.tag.specs.Result.{Result, gives, leaves, lost}
+use Rattle.states.specs.Commands.{asksOf, linkOf, isArbitrate, wrong, breaks, used}
+use Rattle.plans.specs.Effects.{Scene, Effect, does, effectOf}
 
 -- what a frame call is handed
 pub record Input : Type 0 where
@@ -77,26 +78,17 @@ broken i heard.Malformed = false
 broken i heard.Nak = false
 broken i (heard.Said c) = let k = linkOf (stateOf i) in breaks (layout i) (i .image) k (k .half) (asksOf (c .order) .part)
 
-abbrev pub errorCode : Input → Heard → Code
-errorCode i heard.Malformed = code.Nothing
-errorCode i heard.Nak = code.Nothing
-errorCode i (heard.Said c) = codeOf (layout i) (i .image) (isSecured (stateOf i)) (linkOf (stateOf i)) (i .frame) (c .order)
+-- what was heard comes to; NAK: Arbitrate, and no reply
+abbrev pub scene : Input → Scene
+scene i = record { layout = layout i; image = i .image; state = stateOf i; frame = i .frame; fresh = i .fresh }
 
--- NAK: Arbitrate, and no reply
-abbrev pub newState : Input → Heard → State
-newState i heard.Malformed = stateOf i
-newState i heard.Nak = state.Arbitrate
-newState i (heard.Said c) = stateAfter (layout i) (i .image) (i .fresh) (stateOf i) (c .order)
+abbrev pub comes : Input → Heard → Effect
+comes i heard.Malformed = does (stateOf i) reply.Silence []
+comes i heard.Nak = does state.Arbitrate reply.Silence []
+comes i (heard.Said c) = effectOf (scene i) (c .order)
 
-abbrev pub doneReply : Input → Heard → Reply
-doneReply i heard.Malformed = reply.Silence
-doneReply i heard.Nak = reply.Silence
-doneReply i (heard.Said c) = replyAfter (layout i) (i .fresh) (linkOf (stateOf i)) (c .order)
-
-abbrev pub doneWords : Input → Heard → List Store
-doneWords i heard.Malformed = []
-doneWords i heard.Nak = []
-doneWords i (heard.Said c) = wordsAfter (layout i) (i .image) (linkOf (stateOf i)) (i .frame) (c .order)
+abbrev pub effect : Input → Effect
+effect i = comes i (said i)
 
 abbrev pub isError : Code → Bool
 isError code.Nothing = false
@@ -108,10 +100,10 @@ replyOr code.Nothing handle r = r
 replyOr (code.Error e) handle r = reply.Error e handle
 
 abbrev pub replyOf : Input → Reply
-replyOf i = replyOr (errorCode i (said i)) (linkOf (stateOf i) .handle) (doneReply i (said i))
+replyOf i = replyOr (effect i .code) (linkOf (stateOf i) .handle) (effect i .reply)
 
 abbrev pub storesOf : Input → List Store
-storesOf i = changeStores (layout i .work .at) (doneWords i (said i))
+storesOf i = changeStores (layout i .work .at) (effect i .words)
 
 abbrev pub fits : Reply → List ℕ → Bool
 fits r room = not (ltb (length room) (replyBytes r))
@@ -128,60 +120,43 @@ abbrev pub dropped : Input → Result
 dropped i = leaves 12 (movedTo (live i) state.Arbitrate) (i .image) (i .room)
 
 abbrev pub cut : Input → Result
-cut i =
-    record {
-      number = 11;
-      session = offSession;
-      reply = 0;
-      stores = i .power;
-      value = 0;
-      image = after (i .image) (take (i .power) (storesOf i));
-      room = i .room;
-    }
+cut i = lost (i .image) (storesOf i) (i .power) (i .room)
 
 abbrev pub replied : Input → ℕ → State → List Store → Result
 replied i n st ss =
-    record {
-      number = n;
-      session = movedTo (live i) st;
-      reply = replyLength (replyOf i);
-      stores = length ss;
-      value = 0;
-      image = after (i .image) ss;
-      room = packed (replyBits (i .image) (replyOf i)) (i .room);
-    }
+    gives n (movedTo (live i) st) (replyLength (replyOf i)) (length ss) (after (i .image) ss)
+    (packed (replyBits (i .image) (replyOf i)) (i .room))
+
+-- 1, 2, 3, 5 and 6, for every call with an image; `port` is when the port forbids it
+abbrev pub firstRows : (ℕ → Result) → Session → List ℕ → Bool → List (Result × Bool)
+firstRows everything session m port =
+    imageRows everything m
+    ++ (everything 5, isOff (session .power) || not (eqb (countIn (layoutOf m) m) 0))
+    ∷ (everything 6, port)
+    ∷ []
 
 -- THE TABLE: what is left, and when
 abbrev pub rows : Input → List (Result × Bool)
 rows i =
-    imageRows (everything i) (i .image)
-    ++ (everything i 5, isOff (i .session .power) || not (eqb (countIn (layout i) (i .image)) 0))
-    ∷ (everything i 6, live i .held)
-    ∷ (everything i 7, malformed (said i))
+    firstRows (everything i) (i .session) (i .image) (live i .held)
+    ++ (everything i 7, malformed (said i))
     ∷ (everything i 8, checksumWrong (i .frame) (i .bits) (said i))
     ∷ (everything i 9, wrong (stateOf i) (said i))
     ∷ (dropped i, broken i (said i))
-    ∷ (replied i 10 (used (stateOf i)) [], isError (errorCode i (said i)) && fits (replyOf i) (i .room))
+    ∷ (replied i 10 (used (stateOf i)) [], isError (effect i .code) && fits (replyOf i) (i .room))
     ∷ (everything i 4, not (fits (replyOf i) (i .room)))
     ∷ (cut i, ltb (i .power) (length (storesOf i)))
     ∷ []
 
 -- the outcome of a frame
 unfoldable pub frameOf : Input → Result
-frameOf i = first (rows i) (replied i 0 (newState i (said i)) (storesOf i))
+frameOf i = first (rows i) (replied i 0 (effect i .state) (storesOf i))
 
 abbrev pub input : Session → List ℕ → List ℕ → ℕ → ℕ → List ℕ → ℕ → Input
 input session image frame bits fresh room power =
     record { session = session; image = image; frame = frame; bits = bits; fresh = fresh; room = room; power = power }
 
 -- 3.2: an admission takes Arbitrate to Acknowledged; it has neither image nor room, so its order starts at 5
-abbrev pub isArbitrate : State → Bool
-isArbitrate state.Arbitrate = true
-isArbitrate (state.Acknowledged n) = false
-isArbitrate (state.Open k) = false
-isArbitrate (state.Secured k) = false
-isArbitrate state.Killed = false
-
 abbrev pub answered : ℕ → Session → Result
 answered n session = leaves n session [] []
 

@@ -4,7 +4,6 @@ ghost use Rattle.tag.specs.Session.{numberOf};
 
 mod acting;
 mod answering;
-mod orders;
 mod port;
 mod radio;
 mod starting;
@@ -12,35 +11,10 @@ mod starting;
 pub use port::read_row;
 pub use port::show;
 pub use starting::power_up;
-
-// A cover number, if there is one.
-pub enum Cover {
-    Nothing,
-    Number(u16),
-}
-
-// The upper half of a password that waits for the lower, uncovered.
-pub enum Half {
-    Nothing,
-    Access(u16),
-    Kill(u16),
-}
-
-// What Open and Secured hold.
-pub struct Link {
-    pub handle: u16,
-    pub cover: Cover,
-    pub half: Half,
-}
-
-// The states under power. Acknowledged holds the admission number.
-pub enum State {
-    Arbitrate,
-    Acknowledged(u16),
-    Open(Link),
-    Secured(Link),
-    Killed,
-}
+pub use states::Cover;
+pub use states::Half;
+pub use states::Link;
+pub use states::State;
 
 // The port's error register: bit 1, some word wasn't written; bit 0, killed.
 pub struct Register {
@@ -89,23 +63,6 @@ pub struct Outcome {
     pub reply: usize,
     pub stores: usize,
     pub value: u8,
-}
-
-// An order's part in a password: Req_RN's number, a half, or none.
-pub enum Part {
-    Number,
-    Access(u16),
-    Kill(u16),
-    Other,
-}
-
-// What an order asks of the session.
-pub struct Asks {
-    pub early: bool,
-    pub secured: bool,
-    pub cover: bool,
-    pub bad: bool,
-    pub part: Part,
 }
 
 // An answer's number in the table (RULES 5).

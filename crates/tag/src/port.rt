@@ -11,8 +11,8 @@ ghost use Rattle.image.specs.Rules.{Good};
 ghost use Rattle.replies.specs.Pack.{packed};
 ghost use Rattle.tag.specs.Session.{numberOf};
 ghost use Rattle.tag.specs.Table.{liveOf};
-ghost use Rattle.tag.specs.Commands.{isKilled};
-ghost use Rattle.tag.specs.Port.{isLinked, heldTo, registerTo, bitOf, numberIn, withKilled, withUnwritten, badCount, badData, readBits, portOpen, askOf, releaseOf, registerOf, readOf, writeOf};
+ghost use Rattle.states.specs.Commands.{isKilled};
+ghost use Rattle.tag.specs.Port.{heldTo, registerTo, bitOf, numberIn, withKilled, withUnwritten, badCount, badData, readBits, portOpen, askOf, releaseOf, registerOf, readOf, writeOf};
 ghost use Rattle.tag.specs.PortSteps.{gated, heldRow, afterKilled, endRow, readRow, writeEnd, Masked};
 ghost use Rattle.tag.specs.Result.{result};
 use crate::Answer;
@@ -21,24 +21,11 @@ use crate::Outcome;
 use crate::Power;
 use crate::Register;
 use crate::Session;
-use crate::State;
 use crate::answering;
-use crate::orders;
 use crate::radio;
 use crate::starting;
 use image::Layout;
-
-fn is_linked(state: State) -> bool
-    ensures { λ r. ⌜ r ≡ isLinked state ⌝ }
-{
-    match state {
-        State::Arbitrate => false,
-        State::Acknowledged(_) => false,
-        State::Open(_) => true,
-        State::Secured(_) => true,
-        State::Killed => false,
-    }
-}
+use states::State;
 
 // The session with its port held or free.
 fn with_held(l: Live, held: bool) -> Session
@@ -166,7 +153,7 @@ fn is_dead(session: Session) -> bool
         Power::Off => false,
         Power::On(l) => {
             let reached = l.state;
-            orders::is_killed(reached)
+            states::is_killed(reached)
         }
     }
 }
@@ -308,7 +295,7 @@ fn store(l: Live, y: Layout, image: &mut [u8], at: usize, words: &[u8], s: usize
     ensures { λ r. ⌜ result r (now (image .exit)) [] ≡ writeEnd l y (now (image .entry)) at (now (words .entry)) s ⌝ }
 {
     let state = l.state;
-    if orders::is_killed(state) {
+    if states::is_killed(state) {
         return answering::done(with_killed(l), 0, 0, 0);
     }
     if !is_open(image, y) {
@@ -347,7 +334,7 @@ impl Session {
             return radio::unmoved(self, Answer::Port);
         }
         let state = l.state;
-        if is_linked(state) {
+        if states::is_linked(state) {
             return radio::unmoved(self, Answer::Port);
         }
         answering::done(with_held(l, true), 0, 0, 0)

@@ -3,7 +3,7 @@ ghost use mathlib.Core.Path.{_≡_};
 ghost use mathlib.Core.List.{[]};
 ghost use Rattle.image.specs.Layout.{layoutOf};
 ghost use Rattle.image.specs.Rules.{Good};
-ghost use Rattle.tag.specs.Table.{isArbitrate, input, frameOf, admitOf};
+ghost use Rattle.tag.specs.Table.{input, frameOf, admitOf};
 ghost use Rattle.tag.specs.Result.{result};
 ghost use Rattle.tag.specs.Steps.{keptWith, movedWith, heardBy, liveBy};
 ghost use Rattle.frames.specs.Frames.{heardOf};
@@ -12,11 +12,10 @@ use crate::Live;
 use crate::Outcome;
 use crate::Power;
 use crate::Session;
-use crate::State;
 use crate::acting;
 use crate::answering;
-use crate::orders;
 use frames::Heard;
+use states::State;
 
 // Everything stays.
 pub fn unmoved(session: Session, answer: Answer) -> Outcome
@@ -28,18 +27,6 @@ pub fn unmoved(session: Session, answer: Answer) -> Outcome
         reply: 0,
         stores: 0,
         value: 0,
-    }
-}
-
-fn is_arbitrate(state: State) -> bool
-    ensures { λ r. ⌜ r ≡ isArbitrate state ⌝ }
-{
-    match state {
-        State::Arbitrate => true,
-        State::Acknowledged(_) => false,
-        State::Open(_) => false,
-        State::Secured(_) => false,
-        State::Killed => false,
     }
 }
 
@@ -67,7 +54,7 @@ fn hearing(
         Heard::Malformed => answering::refused(l, Answer::Malformed),
         Heard::Nak => {
             let state = l.state;
-            if orders::is_killed(state) {
+            if states::is_killed(state) {
                 return answering::refused(l, Answer::Wrong);
             }
             silent(l, State::Arbitrate)
@@ -116,7 +103,7 @@ impl Session {
             return unmoved(self, Answer::Port);
         }
         let state = l.state;
-        if !is_arbitrate(state) {
+        if !states::is_arbitrate(state) {
             return unmoved(self, Answer::Wrong);
         }
         silent(l, State::Acknowledged(number))

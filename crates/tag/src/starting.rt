@@ -14,8 +14,8 @@ use crate::Outcome;
 use crate::Power;
 use crate::Register;
 use crate::Session;
-use crate::State;
 use image::Layout;
+use states::State;
 
 pub fn off() -> Session
     ensures { λ r. ⌜ r ≡ offSession ⌝ }

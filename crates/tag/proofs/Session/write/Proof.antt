@@ -1,7 +1,8 @@
 -- `tag::Session::write` meets its contract: the check's answers are rows 1, 2 and 3, the rest is `writing`'s. Assumes nothing.
 use Rattle.tag.proofs.Ports.{write-short, write-header, write-content, write-off, write-live}
 use Rattle.tag.specs.PortSteps.{gated, writeEnd}
-use Rattle.tag.specs.Port.{transferred, badData, writeOf}
+use Rattle.tag.specs.Result.{gives}
+use Rattle.tag.specs.Port.{badData, writeOf}
 use Rattle.tag.specs.Steps.{onSession}
 use Rattle.tag.specs.Session.{offSession}
 use Rattle.tag.specs.declared.Session.{Session}
@@ -24,7 +25,7 @@ returns c =
     let z = ready-left m (c .before .before .before .before .ready .ensures) (r .0 .0 .1) (r .0 .1) (r .1) in
     let h = check-0 m _ (row-good m z) in
     let e : a .self ≡ offSession = ap (λ (p : Power). record { power = p }) (c .before .enum-told .given .1) in
-    rw (c .unmoved4 .ensures) (subst (λ (v : Session). transferred 5 v 0 0 m [] ≡ writeOf v m (a .at) (now (a .words)) (a .s)) (sym e) (write-off m (a .at) (now (a .words)) (a .s) (h .0) (h .1) (h .2)))
+    rw (c .unmoved4 .ensures) (subst (λ (v : Session). gives 5 v 0 0 m [] ≡ writeOf v m (a .at) (now (a .words)) (a .s)) (sym e) (write-off m (a .at) (now (a .words)) (a .s) (h .0) (h .1) (h .2)))
 
 read-layout-requires : tie.Need-read-layout-requires
 read-layout-requires c κs =

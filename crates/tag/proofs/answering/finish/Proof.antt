@@ -11,10 +11,10 @@ returns c = rw (c .stopped .ensures) (simp (lt-ltb _ _ (c .before .if1 .taken)))
 
 returns-2 : tie.Need-returns-2
 unfolding storeEnd
-returns-2 c = rw (c .done .ensures, c .before .moved .ensures, c .before .before .before .before .put-success .ensures, c .before .before .before .before .before .handle .ensures) (simp (le-ltb _ _ (c .before .before .before .before .before .before .before .if1 .left)))
+returns-2 c = rw (c .done .ensures, c .before .moved .ensures, c .before .before .before .before .put-success .ensures) (simp (le-ltb _ _ (c .before .before .before .before .before .before .if1 .left)))
 
 pub finish-spec : {M : Type 1} → statement M
 finish-spec =
     tie.close
-    (tie.spec (λ c κs. search needs) returns (λ c κs. search needs) (λ c κs. search needs) (λ c κs. search needs)
+    (tie.spec (λ c κs. search needs) returns (λ c κs. search needs) (λ c κs. search needs)
     (λ c κs. search needs) (λ c. search needs) returns-2)

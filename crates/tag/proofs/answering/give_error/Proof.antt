@@ -11,9 +11,9 @@ returns c = rw (c .refused .ensures) (simp (lt-ltb _ _ (c .before .if1 .taken)))
 
 returns-2 : tie.Need-returns-2
 unfolding errorEnd
-returns-2 c = rw (c .moved .ensures, c .before .used .ensures, c .before .before .before .before .put-error .ensures, c .before .before .before .before .before .handle .ensures) (simp (le-ltb _ _ (c .before .before .before .before .before .before .before .if1 .left)))
+returns-2 c = rw (c .moved .ensures, c .before .used .ensures, c .before .before .before .before .put-error .ensures) (simp (le-ltb _ _ (c .before .before .before .before .before .before .if1 .left)))
 
 pub give-error-spec : {M : Type 1} → statement M
 give-error-spec =
     tie.close
-    (tie.spec (λ c κs. search needs) returns (λ c κs. search needs) (λ c κs. search needs) (λ c κs. search needs) (λ c κs. search needs) (λ c. search needs) returns-2)
+    (tie.spec (λ c κs. search needs) returns (λ c κs. search needs) (λ c κs. search needs) (λ c κs. search needs) (λ c. search needs) returns-2)

@@ -15,14 +15,14 @@ returns : tie.Need-returns
 returns c = let a = c .before .before .before .before .args in
     let m = now (a .image) in
     let ss = store (a .at) (a .v) ∷ [] in
-    rw (c .refused .ensures) (store-small (a .l) (a .work) m (now (a .room)) (a .s) (a .state) ss (c .before .if1 .taken))
+    rw (c .refused .ensures) (store-small (a .l) (a .handle) (a .work) m (now (a .room)) (a .s) (a .state) ss (c .before .if1 .taken))
 
 returns-2 : tie.Need-returns-2
 returns-2 c = let a = c .before .before .before .before .before .before .before .before .before .before .before .before .args in
     let m = now (a .image) in
     let ss = store (a .at) (a .v) ∷ [] in
     let h : 5 ≤ length (now (a .room)) = omega (arith, c .before .before .before .before .before .before .before .before .before .if1 .left) in
-    c .before .before .finish .ensures ∙ store-end (a .l) (a .work) m (now (a .room)) (a .s) (a .state) ss h (refl) (c .before .before .before .before .before .before .before .store-one .ensures)
+    c .before .before .finish .ensures ∙ store-end (a .l) (a .handle) (a .work) m (now (a .room)) (a .s) (a .state) ss h (refl) (c .before .before .before .before .before .before .before .store-one .ensures)
 
 pub store-word-spec : {M : Type 1} → statement M
 store-word-spec =

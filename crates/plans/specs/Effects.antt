@@ -1,0 +1,105 @@
+-- What each command comes to that the session lets pass (RULES 3.9, 3.12 to 3.15 and 3.20 to 3.22), one after the other. Assumes nothing.
+use Prim.Native.Nat.{ℕ, _+_, _-_, _*_}
+use mathlib.Core.Bool.{cond}
+use mathlib.Core.List.{List, [], _∷_}
+use lib.Bits.{bitOr}
+use Rattle.bits.specs.Words.{wordAt, Store, store}
+use Rattle.bits.specs.Bits.{fieldAt}
+use Rattle.bits.specs.Below.{below}
+use Rattle.image.specs.declared.Layout.{Layout}
+use Rattle.image.specs.Content.{lockWord}
+use Rattle.frames.specs.declared.Span.{Span}
+use Rattle.frames.specs.declared.Order.{Order}
+use Rattle.frames.specs.declared.Order.the-variants as order
+use Rattle.replies.specs.declared.Reply.{Reply}
+use Rattle.replies.specs.declared.Reply.the-variants as reply
+use Rattle.rights.specs.declared.Code.{Code}
+use Rattle.rights.specs.declared.Code.the-variants as code
+use Rattle.rights.specs.Rights.{bankOf, spanWords, other, readCode, writeCode, lockedTo, lockCode, permaReadCode, permaCode}
+use Rattle.states.specs.declared.Half.{Half}
+use Rattle.states.specs.declared.Half.the-variants as half
+use Rattle.states.specs.declared.State.{State}
+use Rattle.states.specs.declared.State.the-variants as state
+use Rattle.states.specs.Commands.{linkOf, isSecured, uncovered, zeroKill, withLink, used, halved, numbered}
+
+-- what a command finds: the layout and the image, the session's state, the frame and the fresh word
+pub record Scene : Type 0 where
+  pub layout : Layout
+  pub image : List ℕ
+  pub state : State
+  pub frame : List ℕ
+  pub fresh : ℕ
+
+-- what it comes to: its error code, if one applies; else the state, the reply and the words stored, in rising order
+pub record Effect : Type 0 where
+  pub code : Code
+  pub state : State
+  pub reply : Reply
+  pub words : List Store
+
+abbrev pub does : State → Reply → List Store → Effect
+does st r ws = record { code = code.Nothing; state = st; reply = r; words = ws }
+
+abbrev pub unless : Code → Effect → Effect
+unless e x = record { code = e; state = x .state; reply = x .reply; words = x .words }
+
+abbrev pub handleIn : Scene → ℕ
+handleIn c = linkOf (c .state) .handle
+
+-- 3.14: a word or half as sent, without its cover
+abbrev pub plain : Scene → ℕ → ℕ
+plain c w = uncovered (linkOf (c .state) .cover) w
+
+-- 3.9 and 3.13: the cover number is used up; words stored are answered with the handle, words of the image are shown
+abbrev pub stores : Scene → List Store → Effect
+stores c ws = does (used (c .state)) (reply.Success (handleIn c)) ws
+
+abbrev pub shows : Scene → ℕ → ℕ → Effect
+shows c o n = does (used (c .state)) (reply.Words o n (handleIn c)) []
+
+-- 3.15: a first half waits, answered with the handle
+abbrev pub waits : Scene → Half → Effect
+waits c h = does (withLink (c .state) (halved (linkOf (c .state)) h)) (reply.Number (handleIn c)) []
+
+-- 3.20: words of a span written, where the word for EPC word 1, if it is among them, is pc
+abbrev pub writes : Scene → Span → ℕ → List Store → Effect
+writes c s pc ws = unless (writeCode (c .layout) (c .image) (isSecured (c .state)) s pc) (stores c ws)
+
+-- where the words of a span stand in the image
+abbrev pub placeOf : Layout → Span → ℕ
+placeOf y s = bankOf y (s .bank) .at + s .pointer
+
+-- a half of Kill, by the half that waits: the first has code 00h where there is no kill password; right Kill stores killed as 1.
+-- Where a half of the other password waits, the answer was 12
+abbrev pub kill : Scene → ℕ → Half → Effect
+kill c h half.Nothing = unless (cond (zeroKill (c .layout) (c .image)) other code.Nothing) (waits c (half.Kill (plain c h)))
+kill c h (half.Kill up) = does state.Killed (reply.Success (handleIn c)) (store (c .layout .status .at + 1) 1 ∷ [])
+kill c h (half.Access up) = does (c .state) reply.Silence []
+
+-- a half of Access; right Access: Secured
+abbrev pub access : Scene → ℕ → Half → Effect
+access c h half.Nothing = waits c (half.Access (plain c h))
+access c h (half.Access up) = does (state.Secured (halved (linkOf (c .state)) half.Nothing)) (reply.Number (handleIn c)) []
+access c h (half.Kill up) = does (c .state) (reply.Number (handleIn c)) []
+
+-- THE COMMANDS: what each comes to, unless its error code applies. A frame's words begin at its bit p
+abbrev pub effectOf : Scene → Order → Effect
+effectOf c order.ReqRn = does (numbered (c .layout) (c .image) (c .fresh) (c .state)) (reply.Number (c .fresh)) []
+effectOf c (order.Read s) =
+    let bank = bankOf (c .layout) (s .bank) in
+    unless (readCode (c .layout) (c .image) (isSecured (c .state)) s) (shows c (bank .at + s .pointer) (spanWords bank s))
+effectOf c (order.Write s w) = writes c s (plain c w) (store (placeOf (c .layout) s) (plain c w) ∷ [])
+effectOf c (order.Kill h) = kill c h (linkOf (c .state) .half)
+effectOf c (order.Lock mask action) =
+    let y = c .layout in
+    unless (lockCode y (c .image) mask action) (stores c (store (y .status .at) (lockedTo (lockWord y (c .image)) mask action) ∷ []))
+effectOf c (order.Access h) = access c h (linkOf (c .state) .half)
+effectOf c (order.BlockWrite s p) =
+    let word : ℕ → ℕ = λ j. fieldAt (c .frame) (p + 16 * j) 16 in
+    writes c s (word (1 - s .pointer)) (below (λ j. store (placeOf (c .layout) s + j) (word j)) (s .count))
+effectOf c (order.BlockErase s) = writes c s 0 (below (λ j. store (placeOf (c .layout) s + j) 0) (s .count))
+effectOf c (order.ReadPermalock r s) = unless (permaReadCode (c .layout) s) (shows c (c .layout .perma .at + s .pointer) (s .count))
+effectOf c (order.Permalock r s p) =
+    let o = c .layout .perma .at + s .pointer in
+    unless (permaCode (c .layout) (c .image) s (c .frame) p)
+    (stores c (below (λ j. store (o + j) (bitOr (wordAt (c .image) (o + j)) (fieldAt (c .frame) (p + 16 * j) 16))) (s .count)))
