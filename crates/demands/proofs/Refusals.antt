@@ -1,5 +1,5 @@
 -- When a frame is refused: each line of the refusals is a row of the table with the rows before it excluded. Assumes nothing.
-use Prim.Native.Nat.{ℕ, zero, suc, _+_, _*_, _/_, _%_, _≤_, _<_}
+use Prim.Native.Nat.{ℕ, zero, suc, _+_, _-_, _*_, _/_, _%_, _≤_, _<_}
 use mathlib.Core.Path.{_≡_, refl, sym, ap, ap₂, _∙_, subst}
 use mathlib.Core.Logic.{_≢_, _⊎_, inl, inr}
 use mathlib.Core.Bool.{true≢false, Bool, true, false, cond, not, _&&_, _||_}
@@ -10,6 +10,7 @@ use lib.Dec.{eqb, ltb}
 use lib.ListN.{length, take, drop}
 use borrow.Author.Tests.{eq-eqb, ne-eqb, le-ltb, lt-ltb}
 use Rattle.bits.specs.Words.{after}
+use Rattle.bits.specs.Bits.{fieldAt}
 use Rattle.bits.specs.First.{first}
 use Rattle.image.specs.declared.Layout.{Layout}
 use Rattle.image.specs.Layout.{layoutOf, pairsIn}
@@ -27,12 +28,13 @@ use Rattle.replies.specs.Replies.{replyBits, replyLength}
 use Rattle.replies.specs.Pack.{packed}
 use Rattle.rights.specs.declared.Code.{Code}
 use Rattle.rights.specs.declared.Code.the-variants as code
-use Rattle.rights.specs.Rights.{writeCode}
+use Rattle.rights.specs.Rights.{readCode, writeCode, lockCode, permaReadCode, permaCode}
 use Rattle.stores.specs.Stores.{changeStores}
 use Rattle.states.specs.declared.Cover.{Cover}
 use Rattle.states.specs.declared.Cover.the-variants as cover
 use Rattle.states.specs.declared.Half.{Half}
 use Rattle.states.specs.declared.Half.the-variants as half
+use Rattle.states.specs.declared.Link.{Link}
 use Rattle.states.specs.declared.Part.{Part}
 use Rattle.states.specs.declared.Part.the-variants as part
 use Rattle.states.specs.declared.Asks.{Asks}
@@ -42,11 +44,13 @@ use Rattle.states.specs.declared.State.{State}
 use Rattle.states.specs.declared.State.the-variants as state
 use Rattle.tag.specs.declared.Session.{Session}
 use Rattle.tag.specs.Session.{offSession, on}
-use Rattle.tag.specs.Result.{Result, leaves}
-use Rattle.states.specs.Commands.{isKilled, asks, asksOf, linkOf, isCovered, wrong, wrongBy, killWord, breaks, codeOf, used}
-use Rattle.tag.specs.Table.{Input, input, said, malformed, checksumWrong, broken, errorCode, newState, doneReply, storesOf, isError, replyOr, replyOf, fits, replied, everything, dropped, rows, frameOf, liveOf, isOff, isArbitrate, admitOf}
+use Rattle.tag.specs.Result.{Result, gives, leaves, lost}
+use Rattle.states.specs.Commands.{isArbitrate, isKilled, asksOf, linkOf, isCovered, uncovered, wrong, wrongBy, zeroKill, killWord, breaks, used}
+use Rattle.states.specs.Steps.{asks}
+use Rattle.plans.specs.Effects.{Scene, effectOf}
+use Rattle.tag.specs.Table.{Input, input, malformed, checksumWrong, broken, comes, effect, storesOf, isError, replyOr, replyOf, fits, replied, everything, rows, frameOf, liveOf, isOff, admitOf}
 use Rattle.tag.specs.Power.{started, powerUpOf}
-use Rattle.tag.specs.Port.{badCount, badData, refusals, transferred, registerTo, withKilled, withUnwritten, someUnwritten, readBits, portWords, askOf, releaseOf, registerOf, readOf, writeOf}
+use Rattle.tag.specs.Port.{badCount, badData, refusals, registerTo, withKilled, withUnwritten, someUnwritten, readBits, portWords, askOf, releaseOf, registerOf, readOf, writeOf}
 use Rattle.demands.specs.Calls.{Call, asked, powerUp, ask, read, write, answerOf, Idle}
 use Rattle.demands.specs.Commands.{Air, hears, linked, link, Says}
 use Rattle.demands.proofs.Rows.{Rows}
@@ -85,7 +89,7 @@ image-first m leaving more last n e = go (short m) (headerWrong m) (contentBroke
 
 -- what a frame comes to where no row holds
 last : Input → Result
-last i = replied i 0 (newState i (said i)) (storesOf i)
+last i = replied i 0 (effect i .state) (storesOf i)
 
 -- an image that is not good, or a session that no frame is heard with
 module _ (a : Air) where
@@ -173,32 +177,25 @@ module _ (y : Layout) (a : Air) (st : State) (r : Register) (idle : Idle y (a .i
           room = packed (replyBits (a .image) z) (a .room);
         }
 
-    row-10 : (e : ℕ) → wrong st x ≡ false → broken handed x ≡ false → errorCode handed x ≡ code.Error e → 6 ≤ length (a .room)
+    row-10 : (e : ℕ) → wrong st x ≡ false → broken handed x ≡ false → comes handed x .code ≡ code.Error e → 6 ≤ length (a .room)
         → hears answerOf a (on st false r) ≡ replied-as (reply.Error e (linkOf st .handle))
     unfolding frameOf handed last replied-as
     row-10 e w b c l =
-        let code-is : errorCode handed (said handed) ≡ code.Error e = ap (errorCode handed) h ∙ c in
-        let reply-is : replyOf handed ≡ reply.Error e (linkOf st .handle) = ap (λ (q : Code). replyOr q (linkOf st .handle) (doneReply handed (said handed))) code-is in
+        let code-is : effect handed .code ≡ code.Error e = ap (λ (z : Heard). comes handed z .code) h ∙ c in
+        let reply-is : replyOf handed ≡ reply.Error e (linkOf st .handle) = ap (λ (q : Code). replyOr q (linkOf st .handle) (effect handed .reply)) code-is in
         first-at 9 (rows handed) (last handed)
-        (ready 4 (drop 5 (rows handed)) (
-          ap malformed h ∙ m,
-          (
-            ap (checksumWrong (a .frame) (a .bits)) h ∙ k,
-            (
-              ap (wrong st) h ∙ w,
-              (
-                ap (broken handed) h ∙ b,
-                ap₂ (λ (q : Code) (z : Reply). isError q && fits z (a .room)) code-is reply-is ∙ ap not (le-ltb (length (a .room)) 6 l),
-              ),
-            ),
-          ),
-        ))
+        (ready 4 (drop 5 (rows handed))
+        (ap malformed h ∙ m,
+        (ap (checksumWrong (a .frame) (a .bits)) h ∙ k,
+        (ap (wrong st) h ∙ w,
+        (ap (broken handed) h ∙ b,
+        ap₂ (λ (q : Code) (z : Reply). isError q && fits z (a .room)) code-is reply-is ∙ ap not (le-ltb (length (a .room)) 6 l))))))
         ∙ ap replied-as reply-is
 
 -- what it lacks, or that it has it all
 data Lacks (q : Bool) (c : Cover) (a : Asks) : Type 0 where
   insecure : q ≡ false → a .secured ≡ true → Lacks q c a
-  uncovered : a .cover && not (isCovered c) ≡ true → Lacks q c a
+  naked : a .cover && not (isCovered c) ≡ true → Lacks q c a
   empty : a .bad ≡ true → Lacks q c a
 
 record Has (q : Bool) (c : Cover) (a : Asks) : Type 0 where
@@ -233,10 +230,10 @@ perma-lacks true c (suc rfu) k p f = empty (ap (λ (b : Bool). not b || eqb k 0)
 lacks : (o : Order) (q : Bool) (c : Cover) → (Needs q c o → ⊥) → Lacks q c (asksOf o)
 lacks order.ReqRn q c f = absurd (f tt)
 lacks (order.Read s) q c f = absurd (f tt)
-lacks (order.Write s w) q c f = uncovered (bare c f)
-lacks (order.Kill w) q c f = uncovered (bare c f)
+lacks (order.Write s w) q c f = naked (bare c f)
+lacks (order.Kill w) q c f = naked (bare c f)
 lacks (order.Lock mask action) q c f = insecure (not-so q f) refl
-lacks (order.Access w) q c f = uncovered (bare c f)
+lacks (order.Access w) q c f = naked (bare c f)
 lacks (order.BlockWrite s at) q c f = empty (none (s .count) f)
 lacks (order.BlockErase s) q c f = empty (none (s .count) f)
 lacks (order.ReadPermalock rfu s) q c f = perma-lacks q c rfu (s .count) part.Other f
@@ -272,10 +269,10 @@ or-middle x y z e = ap (λ (b : Bool). b || z) (or-right x y e)
 module _ (h : ℕ) (c : Cover) (p : Half) where
   lacks-wrong : (q : Bool) (n : ℕ) (a : Asks) → Lacks q c a → wrongBy (linked q (link h c p)) n a ≡ true
   lacks-wrong true n a (insecure e s) = absurd (true≢false e)
-  lacks-wrong true n a (uncovered e) = or-middle (not (eqb h n)) (a .cover && not (isCovered c)) (a .bad) e
+  lacks-wrong true n a (naked e) = or-middle (not (eqb h n)) (a .cover && not (isCovered c)) (a .bad) e
   lacks-wrong true n a (empty e) = or-right (not (eqb h n) || (a .cover && not (isCovered c))) (a .bad) e
   lacks-wrong false n a (insecure e s) = ap (λ (b : Bool). not (not b && eqb h n) || (a .cover && not (isCovered c)) || a .bad) s
-  lacks-wrong false n a (uncovered e) = or-middle (not (not (a .secured) && eqb h n)) (a .cover && not (isCovered c)) (a .bad) e
+  lacks-wrong false n a (naked e) = or-middle (not (not (a .secured) && eqb h n)) (a .cover && not (isCovered c)) (a .bad) e
   lacks-wrong false n a (empty e) = or-right (not (not (a .secured) && eqb h n) || (a .cover && not (isCovered c))) (a .bad) e
 
   other-wrong : (q : Bool) (n : ℕ) (a : Asks) → n ≢ h → wrongBy (linked q (link h c p)) n a ≡ true
@@ -383,24 +380,52 @@ module _ (a : Air) (r : Register) (idle : Idle (layoutOf (a .image)) (a .image))
         between = λ q h c p o s f d. says-12 q h c p o s f (comes-between p o h c d);
       }
 
+  -- the code of an order where no half waits
+  codeBy : Bool → Cover → Order → Code
+  codeBy q c order.ReqRn = code.Nothing
+  codeBy q c (order.Read s) = readCode (layoutOf (a .image)) (a .image) q s
+  codeBy q c (order.Write s w) = writeCode (layoutOf (a .image)) (a .image) q s (uncovered c w)
+  codeBy q c (order.Kill w) = cond (zeroKill (layoutOf (a .image)) (a .image)) (code.Error 0x00) code.Nothing
+  codeBy q c (order.Lock mask action) = lockCode (layoutOf (a .image)) (a .image) mask action
+  codeBy q c (order.Access w) = code.Nothing
+  codeBy q c (order.BlockWrite s at) = writeCode (layoutOf (a .image)) (a .image) q s (fieldAt (a .frame) (at + 16 * (1 - s .pointer)) 16)
+  codeBy q c (order.BlockErase s) = writeCode (layoutOf (a .image)) (a .image) q s 0
+  codeBy q c (order.ReadPermalock rfu s) = permaReadCode (layoutOf (a .image)) s
+  codeBy q c (order.Permalock rfu s at) = permaCode (layoutOf (a .image)) (a .image) s (a .frame) at
+
+  scene-in : State → Scene
+  scene-in st = record { layout = layoutOf (a .image); image = a .image; state = st; frame = a .frame; fresh = a .fresh }
+
+  same-code : (o : Order) (k : Link) → k .half ≡ half.Nothing
+      → (effectOf (scene-in (state.Secured k)) o .code ≡ codeBy true (k .cover) o) × (effectOf (scene-in (state.Open k)) o .code ≡ codeBy false (k .cover) o)
+  unfolding scene-in codeBy
+  same-code order.ReqRn k e = (refl, refl)
+  same-code (order.Read s) k e = (refl, refl)
+  same-code (order.Write s w) k e = (refl, refl)
+  same-code (order.Kill w) k e = (rw e, rw e)
+  same-code (order.Lock mask action) k e = (refl, refl)
+  same-code (order.Access w) k e = (rw e, rw e)
+  same-code (order.BlockWrite s at) k e = (refl, refl)
+  same-code (order.BlockErase s) k e = (refl, refl)
+  same-code (order.ReadPermalock rfu s) k e = (refl, refl)
+  same-code (order.Permalock rfu s at) k e = (refl, refl)
+
   -- 10, where no half waits
-  says-10 : (q : Bool) (h : ℕ) (c : Cover) (o : Order) (e : ℕ) → Says a h o → Needs q c o → 6 ≤ length (a .room)
-      → codeOf (layoutOf (a .image)) (a .image) q (link h c half.Nothing) (a .frame) o ≡ code.Error e
+  says-10 : (q : Bool) (h : ℕ) (c : Cover) (o : Order) (e : ℕ) → Says a h o → Needs q c o → 6 ≤ length (a .room) → codeBy q c o ≡ code.Error e
       → hears answerOf a (on (linked q (link h c half.Nothing)) false r) ≡ errs a r q h half.Nothing e
-  unfolding handed replied-as
+  unfolding handed replied-as scene-in
   says-10 q h c o e s f l d = go q f d
     where
       x : Heard
       x = heard.Said (record { number = h; order = o })
 
-      go : (q : Bool) → Needs q c o → codeOf (layoutOf (a .image)) (a .image) q (link h c half.Nothing) (a .frame) o ≡ code.Error e
-          → hears answerOf a (on (linked q (link h c half.Nothing)) false r) ≡ errs a r q h half.Nothing e
+      go : (q : Bool) → Needs q c o → codeBy q c o ≡ code.Error e → hears answerOf a (on (linked q (link h c half.Nothing)) false r) ≡ errs a r q h half.Nothing e
       go true f d =
           row-10 (layoutOf (a .image)) a (state.Secured (link h c half.Nothing)) r idle x (s .heard) refl (ap not (s .right)) e
-          (has-right h c half.Nothing true (asksOf o) (has o true c f)) refl d l
+          (has-right h c half.Nothing true (asksOf o) (has o true c f)) refl (same-code o (link h c half.Nothing) refl .0 ∙ d) l
       go false f d =
           row-10 (layoutOf (a .image)) a (state.Open (link h c half.Nothing)) r idle x (s .heard) refl (ap not (s .right)) e
-          (has-right h c half.Nothing false (asksOf o) (has o false c f)) refl d l
+          (has-right h c half.Nothing false (asksOf o) (has o false c f)) refl (same-code o (link h c half.Nothing) refl .1 ∙ d) l
 
   -- what a writing command brings is what its code is asked of
   brings-needs : (o : Order) (q : Bool) (c : Cover) (b p n pc : ℕ) → Brings a c o b p n pc → Needs q c o
@@ -416,40 +441,43 @@ module _ (a : Air) (r : Register) (idle : Idle (layoutOf (a .image)) (a .image))
   brings-needs (order.ReadPermalock rfu s) q c b p n pc f = absurd f
   brings-needs (order.Permalock rfu s at) q c b p n pc f = absurd f
 
-  brings-code : (o : Order) (q : Bool) (h : ℕ) (c : Cover) (b p n pc : ℕ) → Brings a c o b p n pc
-      → codeOf (layoutOf (a .image)) (a .image) q (link h c half.Nothing) (a .frame) o ≡ writeCode (layoutOf (a .image)) (a .image) q (span b p n) pc
-  brings-code order.ReqRn q h c b p n pc f = absurd f
-  brings-code (order.Read s) q h c b p n pc f = absurd f
-  brings-code (order.Write s w) q h cover.Nothing b p n pc f = absurd f
-  brings-code (order.Write s w) q h (cover.Number k) b p n pc f = rw (f .0, f .1, f .2)
-  brings-code (order.Kill w) q h c b p n pc f = absurd f
-  brings-code (order.Lock mask action) q h c b p n pc f = absurd f
-  brings-code (order.Access w) q h c b p n pc f = absurd f
-  brings-code (order.BlockWrite s at) q h c b p n pc f = rw (f .0, f .2)
-  brings-code (order.BlockErase s) q h c b p n pc f = rw (f .0, f .2)
-  brings-code (order.ReadPermalock rfu s) q h c b p n pc f = absurd f
-  brings-code (order.Permalock rfu s at) q h c b p n pc f = absurd f
+  brings-code : (o : Order) (q : Bool) (c : Cover) (b p n pc : ℕ) → Brings a c o b p n pc
+      → codeBy q c o ≡ writeCode (layoutOf (a .image)) (a .image) q (span b p n) pc
+  unfolding codeBy
+  brings-code order.ReqRn q c b p n pc f = absurd f
+  brings-code (order.Read s) q c b p n pc f = absurd f
+  brings-code (order.Write s w) q cover.Nothing b p n pc f = absurd f
+  brings-code (order.Write s w) q (cover.Number k) b p n pc f = rw (f .0, f .1, f .2)
+  brings-code (order.Kill w) q c b p n pc f = absurd f
+  brings-code (order.Lock mask action) q c b p n pc f = absurd f
+  brings-code (order.Access w) q c b p n pc f = absurd f
+  brings-code (order.BlockWrite s at) q c b p n pc f = rw (f .0, f .2)
+  brings-code (order.BlockErase s) q c b p n pc f = rw (f .0, f .2)
+  brings-code (order.ReadPermalock rfu s) q c b p n pc f = absurd f
+  brings-code (order.Permalock rfu s at) q c b p n pc f = absurd f
 
   module _ (l : 6 ≤ length (a .room)) where
     error-lines : (q : Bool) (h : ℕ) (c : Cover) → Errors answerOf (layoutOf (a .image)) a r q h c
+    unfolding codeBy
     error-lines q h c =
         record {
           read-past = λ b p n s f. says-10 q h c (order.Read (span b p n)) 0x03 s tt l (codes.read-past (layoutOf (a .image)) (a .image) q b p n f);
           read-right = λ b p n j s w d e. says-10 q h c (order.Read (span b p n)) 0x04 s tt l (codes.read-right (layoutOf (a .image)) (a .image) q b p n j w d e);
           write-past = λ o b p n pc s f d.
-              says-10 q h c o 0x03 s (brings-needs o q c b p n pc f) l (brings-code o q h c b p n pc f ∙ codes.write-past (layoutOf (a .image)) (a .image) q b p n pc d);
+              says-10 q h c o 0x03 s (brings-needs o q c b p n pc f) l (brings-code o q c b p n pc f ∙ codes.write-past (layoutOf (a .image)) (a .image) q b p n pc d);
           write-right = λ o b p n pc j s f w i e.
-              says-10 q h c o 0x04 s (brings-needs o q c b p n pc f) l (brings-code o q h c b p n pc f ∙ codes.write-right (layoutOf (a .image)) (a .image) q b p n pc j w i e);
+              says-10 q h c o 0x04 s (brings-needs o q c b p n pc f) l (brings-code o q c b p n pc f ∙ codes.write-right (layoutOf (a .image)) (a .image) q b p n pc j w i e);
           write-pc = λ o b p n pc s f w g t e.
-              says-10 q h c o 0x03 s (brings-needs o q c b p n pc f) l (brings-code o q h c b p n pc f ∙ codes.write-pc (layoutOf (a .image)) (a .image) q b p n pc w g t e);
+              says-10 q h c o 0x03 s (brings-needs o q c b p n pc f) l (brings-code o q c b p n pc f ∙ codes.write-pc (layoutOf (a .image)) (a .image) q b p n pc w g t e);
           write-many = λ o b p n pc s f w g t e.
-              says-10 q h c o 0x00 s (brings-needs o q c b p n pc f) l (brings-code o q h c b p n pc f ∙ codes.write-many (layoutOf (a .image)) (a .image) q b p n pc w g t e);
+              says-10 q h c o 0x00 s (brings-needs o q c b p n pc f) l (brings-code o q c b p n pc f ∙ codes.write-many (layoutOf (a .image)) (a .image) q b p n pc w g t e);
           kill-zero = λ k w e s u v.
               says-10 q h c (order.Kill w) 0x00 s (subst Covered (sym e) tt) l
               (ap₂ (λ (t x : Bool). cond (t && x) (code.Error 0x00) code.Nothing) (eq-eqb (killWord (layoutOf (a .image)) (a .image) 0) 0 u) (eq-eqb (killWord (layoutOf (a .image)) (a .image) 1) 0 v));
         }
 
     lock-lines : (h : ℕ) (c : Cover) → Locks answerOf (layoutOf (a .image)) a r h c
+    unfolding codeBy
     lock-lines h c =
         record {
           lock-pair = λ mask action k s i e d. says-10 true h c (order.Lock mask action) 0x04 s refl l (codes.lock-pair (layoutOf (a .image)) (a .image) mask action k i e d);
@@ -557,7 +585,7 @@ read-listed m at n room =
       last = λ s.
           let l = liveOf (s .power) in
           let killed = isKilled (l .state) in
-          transferred 0 (registerTo l (cond killed (withKilled (l .register)) (l .register))) (16 * n) 0 m (packed (readBits (layoutOf m) m killed at n) room);
+          gives 0 (registerTo l (cond killed (withKilled (l .register)) (l .register))) (16 * n) 0 m (packed (readBits (layoutOf m) m killed at n) room);
       same = λ s. refl;
     }
 
@@ -567,12 +595,12 @@ write-listed m at d u =
     record {
       more = λ s.
           let stores = changeStores (layoutOf m .work .at) (portWords (layoutOf m) m (isKilled (liveOf (s .power) .state)) at d) in
-          (transferred 11 offSession 0 u (after m (take u stores)) [], ltb u (length stores)) ∷ [];
+          (lost m stores u [], ltb u (length stores)) ∷ [];
       last = λ s.
           let l = liveOf (s .power) in
           let killed = isKilled (l .state) in
           let stores = changeStores (layoutOf m .work .at) (portWords (layoutOf m) m killed at d) in
-          transferred 0
+          gives 0
           (registerTo l (cond killed (withKilled (l .register)) (withUnwritten (someUnwritten (layoutOf m) m at (length d / 2)) (l .register))))
           0 (length stores) (after m stores) [];
       same = λ s. refl;
