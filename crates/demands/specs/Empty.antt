@@ -1,38 +1,52 @@
--- Empty programs fall (RULES 7.3): what each would answer to a frame, and that the promise refutes it at a named input. Assumes nothing.
+-- Empty programs fall (RULES 7.3), each to the demand that rules it out, at a named input. Assumes nothing.
 use Prim.Native.Nat.{ℕ, _≤_}
 use mathlib.Core.Path.{_≡_, refl, sym, ap, _∙_}
-use mathlib.Core.List.{List, _++_}
+use mathlib.Core.Bool.{false}
+use mathlib.Core.List.{List, [], _∷_, _++_}
 use native.Mathlib.Omega.{arith}
+use lib.Dec.{lit<, lit≤}
 use lib.ListN.{take, replicate, getD}
-use Rattle.bits.specs.Words.{wordAt, withWord, after}
+use Rattle.bits.specs.Words.{wordAt, withWord, after, store}
 use Rattle.bits.specs.Bits.{fieldAt, bitsOf, wordsBits}
 use Rattle.crc.specs.Crc.{crcOf}
 use Rattle.ebv.specs.Ebv.{pointerAt}
 use Rattle.image.specs.Layout.{layoutOf, headerGood, blocksIn}
 use Rattle.image.specs.Content.{rulesHold, contentGood}
-use Rattle.image.specs.Worked.{worked}
-use Rattle.frames.specs.Frames.{heardOf}
-use Rattle.replies.specs.Pack.{packed}
+use Rattle.image.specs.Worked.{worked, workedLayout}
+use Rattle.frames.specs.Frames.{heardOf, checksumRight}
+use Rattle.replies.specs.Pack.{filled, packed}
+use Rattle.replies.specs.Replies.{checked}
+use Rattle.rights.specs.Rights.{readCode, writeCode}
 use Rattle.stores.specs.Stores.{powerStores}
-use Rattle.stores.specs.Cuts.{withByte}
+use Rattle.stores.specs.Cuts.{Cut}
+use Rattle.stores.specs.Worked.{worked-bytes}
+use Rattle.states.specs.declared.Cover.the-variants as cover
+use Rattle.states.specs.declared.Half.the-variants as half
+use Rattle.states.specs.declared.Link.{Link}
+use Rattle.states.specs.declared.State.the-variants as state
+use Rattle.replies.specs.declared.Reply.the-variants as reply
+use Rattle.tag.specs.declared.Session.{Session}
+use Rattle.tag.specs.Session.{offSession, on, clear}
 use Rattle.tag.specs.Result.{Result}
 use Rattle.tag.specs.Power.{started, powerUpOf}
 use Rattle.tag.specs.Table.{Input, input, everything, effect, storesOf, frameOf}
+use Rattle.demands.specs.Calls.{Call, powerUp, admit, frame, ask, release, register, read, write, Tag, Program, answerOf, torn}
+use Rattle.demands.specs.Demands.{Demand1, Demand3, Stores, told}
+use Rattle.demands.specs.Commands.{Demand2, hears, link, done}
 use Rattle.demands.specs.Worked.{write3, readTwo, secured, sent-cases}
+use Rattle.demands.specs.Torn.{tag, p7}
+use Rattle.demands.specs.Met.{air, met}
 
--- a program for frames, and the promise of `frame`
-abbrev pub Program : Type 0
-Program = Input → Result
-
-abbrev pub Promised : Program → Type 0
-Promised f = (i : Input) → f i ≡ frameOf i
-
--- the named inputs: P7's Write with power for s stores, and a Read of USER 2 and 3, both in Secured with a room of 12 bytes
-abbrev pub writing : ℕ → Input
-writing s = input secured worked write3 66 0x1234 (replicate 12 0xAA) s
-
-abbrev pub reading : Input
-reading = input secured worked readTwo 58 0x1234 (replicate 12 0xAA) 0
+-- a program that answers frames so, and every other call as the tag does
+abbrev pub framing : (Input → Result) → Program
+framing f t (powerUp s) = answerOf t (powerUp s)
+framing f t (admit n) = answerOf t (admit n)
+framing f t (frame b bits fresh room s) = f (input (t .session) (t .image) b bits fresh room s)
+framing f t ask = answerOf t ask
+framing f t release = answerOf t release
+framing f t register = answerOf t register
+framing f t (read at count room) = answerOf t (read at count room)
+framing f t (write at d s) = answerOf t (write at d s)
 
 -- the right answer with another image, room or number of stores
 abbrev pub withImage : List ℕ → Result → Result
@@ -44,66 +58,96 @@ withRoom room r = record { number = r .number; session = r .session; reply = r .
 abbrev pub withStores : ℕ → Result → Result
 withStores n r = record { number = r .number; session = r .session; reply = r .reply; stores = n; value = r .value; image = r .image; room = r .room }
 
--- refuses all
+-- refuses all; is all right, but its reply is always the same bits; or stores nothing; or stores the words first and shams the staging behind them; or invents
+-- the stores made
 abbrev pub refusing : ℕ → Program
-refusing n i = everything i n
+refusing n = framing (λ i. everything i n)
 
--- all right, but its reply is always the same bits
 abbrev pub repeating : List ℕ → Program
-repeating bits i = withRoom (packed bits (i .room)) (frameOf i)
+repeating bits = framing (λ i. withRoom (packed bits (i .room)) (frameOf i))
 
--- all right, but it stores nothing
 abbrev pub idling : Program
-idling i = withImage (i .image) (frameOf i)
+idling = framing (λ i. withImage (i .image) (frameOf i))
 
--- all right, but the words come first and the staging is a sham behind them
 abbrev pub shamming : Program
-shamming i = withImage (after (i .image) (take (i .power) (effect i .words ++ storesOf i))) (frameOf i)
+shamming = framing (λ i. withImage (after (i .image) (take (i .power) (effect i .words ++ storesOf i))) (frameOf i))
 
--- all right, but the stores made are invented
 abbrev pub inventing : ℕ → Program
-inventing n i = withStores n (frameOf i)
+inventing n = framing (λ i. withStores n (frameOf i))
 
-pub refusing-falls : (n : ℕ) → 1 ≤ n → Promised (refusing n) → ⊥
-refusing-falls n l f =
-    let e : n ≡ 0 = ap (λ (r : Result). r .number) (f (writing 5)) ∙ sent-cases .written in
-    omega (arith, l, e)
+-- what demand 2 says of P7's Write and of a Read of USER 2 and 3, both in Open, and what that is on the worked image
+abbrev linkIn : Link
+linkIn = link 0x1234 (cover.Number 0x5A5A) half.Nothing
 
-pub repeating-falls : (bits : List ℕ) → Promised (repeating bits) → ⊥
-repeating-falls bits f =
-    let e : getD (packed bits (replicate 12 0xAA)) 0 0 ≡ 0x09 = ap (λ (r : Result). getD (r .room) 0 0) (f (writing 5)) ∙ ap (λ (l : List ℕ). getD l 0 0) (sent-cases .written-room) in
-    let d : getD (packed bits (replicate 12 0xAA)) 0 0 ≡ 0x00 = ap (λ (r : Result). getD (r .room) 0 0) (f reading) ∙ ap (λ (l : List ℕ). getD l 0 0) (sent-cases .shows) in
-    let z : _≡_ {A = ℕ} 0x09 0x00 = sym e ∙ d in
+abbrev opened : Session
+opened = on (state.Open linkIn) false clear
+
+abbrev writes : Result
+writes = done workedLayout (air write3 66) clear (state.Open (link 0x1234 cover.Nothing half.Nothing)) (reply.Success 0x1234) (store 31 0xABCD ∷ [])
+
+abbrev reads : Result
+reads = done workedLayout (air readTwo 58) clear (state.Open (link 0x1234 cover.Nothing half.Nothing)) (reply.Words 30 2 0x1234) []
+
+pub must-write : (A : Program) → Demand2 A → hears A (air write3 66) opened ≡ writes
+must-write A d = d .radio workedLayout (air write3 66) clear (met .idle) .write false 0x1234 0x5A5A 3 3 0xF197 (met .write-right) (met .write .0) (met .write .1)
+
+pub must-read : (A : Program) → Demand2 A → hears A (air readTwo 58) opened ≡ reads
+must-read A d = d .radio workedLayout (air readTwo 58) clear (met .idle) .read false 0x1234 (cover.Number 0x5A5A) 3 2 2 (met .read-right) (met .read .0) (met .read .1)
+
+record Computed : Type 0 where
+  written : getD (writes .room) 0 0 ≡ 0x09
+  shown : getD (reads .room) 0 0 ≡ 0x00
+  word : wordAt (writes .image) 31 ≡ 0xABCD
+  before : wordAt worked 31 ≡ 10
+  stores : writes .stores ≡ 5
+
+computed : Computed
+unfolding worked wordAt withWord wordsBits bitsOf crcOf filled packed checked
+computed = record { written = refl; shown = refl; word = refl; before = refl; stores = refl }
+
+-- demand 2
+pub refusing-falls : (n : ℕ) → 1 ≤ n → Demand2 (refusing n) → ⊥
+refusing-falls n l d = let e : n ≡ 0 = ap (λ (r : Result). r .number) (must-write (refusing n) d) in omega (arith, l, e)
+
+pub repeating-falls : (bits : List ℕ) → Demand2 (repeating bits) → ⊥
+repeating-falls bits d =
+    let e : getD (packed bits (replicate 12 0xAA)) 0 0 ≡ 0x09 = ap (λ (r : Result). getD (r .room) 0 0) (must-write (repeating bits) d) ∙ computed .written in
+    let f : getD (packed bits (replicate 12 0xAA)) 0 0 ≡ 0x00 = ap (λ (r : Result). getD (r .room) 0 0) (must-read (repeating bits) d) ∙ computed .shown in
+    let z : _≡_ {A = ℕ} 0x09 0x00 = sym e ∙ f in
     omega arith
 
-pub idling-falls : Promised idling → ⊥
-unfolding worked wordAt
-idling-falls f =
-    let z : _≡_ {A = ℕ} 10 0xABCD = ap (λ (r : Result). wordAt (r .image) 31) (f (writing 5)) ∙ sent-cases .written-word in
+pub idling-falls : Demand2 idling → ⊥
+idling-falls d =
+    let z : _≡_ {A = ℕ} 10 0xABCD = sym (computed .before) ∙ ap (λ (r : Result). wordAt (r .image) 31) (must-write idling d) ∙ computed .word in
     omega arith
 
--- the sham falls to the order of stores, at a cut of 1
-sham-word : wordAt (shamming (writing 1) .image) 31 ≡ 0xABCD
-unfolding layoutOf worked wordAt withWord fieldAt pointerAt heardOf write3
-sham-word = refl
+-- demand 3, at a cut of 1: one store made is at most 2n, but the word is new after the next power-up; torn there, it is neither the old one nor the new one
+sham-stores : Stores shamming workedLayout tag p7 1 5
+unfolding frameOf layoutOf headerGood blocksIn contentGood rulesHold worked wordAt withWord wordsBits bitsOf crcOf fieldAt pointerAt heardOf checksumRight filled packed checked writeCode write3
+sham-stores = record { bytes = worked-bytes; idle = met .idle; some = lit≤ tt; done = refl; stores = refl }
 
-pub shamming-falls : Promised shamming → ⊥
-shamming-falls f =
-    let z : _≡_ {A = ℕ} 0xABCD 10 = sym sham-word ∙ ap (λ (r : Result). wordAt (r .image) 31) (f (writing 1)) ∙ sent-cases .cut-word in
-    omega arith
+pub record Sham : Type 0 where
+  pub starts : answerOf (record { session = offSession; image = torn shamming tag (told p7 1) 156 }) (powerUp 257) .number ≡ 0
+  pub mixes : wordAt (answerOf (record { session = offSession; image = torn shamming tag (told p7 1) 156 }) (powerUp 257) .image) 31 ≡ 0xABCD
+  pub tears : wordAt (answerOf (record { session = offSession; image = torn shamming tag (told p7 0) 62 }) (powerUp 257) .image) 31 ≡ 0xAB0A
+  pub whole : powerUpOf worked 257 .number ≡ 0
+  pub old : wordAt (powerUpOf worked 257 .image) 31 ≡ 10
 
--- and to demand 3 there: one store made is at most 2n, but the word is new after the next power-up
-pub sham-mixes : wordAt (powerUpOf (shamming (writing 1) .image) 257 .image) 31 ≡ 0xABCD
+pub sham : Sham
 unfolding powerUpOf started powerStores layoutOf headerGood blocksIn contentGood rulesHold worked wordAt withWord wordsBits bitsOf crcOf fieldAt pointerAt heardOf write3
-sham-mixes = refl
+sham = record { starts = refl; mixes = refl; tears = refl; whole = refl; old = refl }
 
--- nor is a torn word stored again: its high byte alone, and the word is neither the old one nor the new one
-pub sham-tears : wordAt (powerUpOf (withByte 62 (shamming (writing 1) .image) (shamming (writing 0) .image)) 257 .image) 31 ≡ 0xAB0A
-unfolding powerUpOf started powerStores layoutOf headerGood blocksIn contentGood rulesHold worked wordAt withWord wordsBits bitsOf crcOf fieldAt pointerAt heardOf write3
-sham-tears = refl
+pub shamming-falls : Demand3 shamming → ⊥
+shamming-falls d =
+    let f : Cut = record { whole = 1; byte = 156 } in
+    let z : _≡_ {A = ℕ} 0xABCD 10 =
+    sym (sham .mixes) ∙ d workedLayout tag p7 1 5 sham-stores f [] .old (lit≤ tt) 257 257 (sham .starts) (sham .whole) 31 (lit< tt) ∙ sham .old in
+    omega arith
 
-pub inventing-falls : (n : ℕ) → Promised (inventing n) → ⊥
-inventing-falls n f =
-    let e : n ≡ 5 = ap (λ (r : Result). r .stores) (f (writing 5)) ∙ sent-cases .written-stores in
-    let d : n ≡ 2 = ap (λ (r : Result). r .stores) (f (writing 2)) ∙ sent-cases .cut-stores in
-    omega (arith, e, d)
+-- 3n + 2 (demand 2) and s (demand 1): a whole Write makes 5 stores, one with power for 2 makes 2
+pub inventing-falls : (n : ℕ) → Demand1 (inventing n) → Demand2 (inventing n) → ⊥
+unfolding frameOf layoutOf headerGood blocksIn contentGood rulesHold worked wordAt withWord wordsBits bitsOf crcOf fieldAt pointerAt heardOf checksumRight filled packed checked writeCode write3
+inventing-falls n d e =
+    let p : n ≡ 5 = ap (λ (r : Result). r .stores) (must-write (inventing n) e) ∙ computed .stores in
+    let q : n ≡ 2 = ap (λ (r : Result). r .stores) (d .table tag (told p7 2) .lost refl .1) in
+    omega (arith, p, q)

@@ -6,7 +6,7 @@ pub mod Ports
 pub mod Wrong
 pub mod Cases
 pub mod Torn
-pub mod Empty
 pub mod Met
+pub mod Empty
 pub mod Answers
 pub mod Refusals

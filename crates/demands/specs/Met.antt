@@ -75,7 +75,7 @@ unfoldable pub perma3 : List ℕ
 perma3 = 0xC9 ∷ 0x00 ∷ 0xE0 ∷ 0x00 ∷ 0x22 ∷ 0x00 ∷ 0x02 ∷ 0x46 ∷ 0x8D ∷ 0xFB ∷ 0x00 ∷ []
 
 -- a frame to the worked image, with a room of 12 bytes and power for 50 stores
-abbrev air : List ℕ → ℕ → Air
+abbrev pub air : List ℕ → ℕ → Air
 air f bits = record { image = worked; frame = f; bits = bits; fresh = 0x5678; room = replicate 12 0xAA; power = 50 }
 
 -- it says the order, and its room and power do for the reply and the words
