@@ -184,12 +184,19 @@ module _ (y : Layout) (a : Air) (st : State) (r : Register) (idle : Idle y (a .i
         let code-is : effect handed .code ≡ code.Error e = ap (λ (z : Heard). comes handed z .code) h ∙ c in
         let reply-is : replyOf handed ≡ reply.Error e (linkOf st .handle) = ap (λ (q : Code). replyOr q (linkOf st .handle) (effect handed .reply)) code-is in
         first-at 9 (rows handed) (last handed)
-        (ready 4 (drop 5 (rows handed))
-        (ap malformed h ∙ m,
-        (ap (checksumWrong (a .frame) (a .bits)) h ∙ k,
-        (ap (wrong st) h ∙ w,
-        (ap (broken handed) h ∙ b,
-        ap₂ (λ (q : Code) (z : Reply). isError q && fits z (a .room)) code-is reply-is ∙ ap not (le-ltb (length (a .room)) 6 l))))))
+        (ready 4 (drop 5 (rows handed)) (
+          ap malformed h ∙ m,
+          (
+            ap (checksumWrong (a .frame) (a .bits)) h ∙ k,
+            (
+              ap (wrong st) h ∙ w,
+              (
+                ap (broken handed) h ∙ b,
+                ap₂ (λ (q : Code) (z : Reply). isError q && fits z (a .room)) code-is reply-is ∙ ap not (le-ltb (length (a .room)) 6 l),
+              ),
+            ),
+          ),
+        ))
         ∙ ap replied-as reply-is
 
 -- what it lacks, or that it has it all

@@ -72,7 +72,7 @@ abbrev sending : List ℕ → ℕ → Call
 sending f bits = frame f bits 0x5678 (replicate 12 0xAA) 50
 
 -- Write to USER 3 with another CRC-16, and with another handle
-abbrev badSum : List ℕ
+abbrev pub badSum : List ℕ
 badSum = 0xC3 ∷ 0xC0 ∷ 0xFC ∷ 0x65 ∷ 0xC4 ∷ 0x8D ∷ 0x0C ∷ 0xDF ∷ 0x80 ∷ []
 
 pub numbers : List Case

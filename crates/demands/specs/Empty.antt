@@ -76,16 +76,16 @@ abbrev pub inventing : ℕ → Program
 inventing n = framing (λ i. withStores n (frameOf i))
 
 -- what demand 2 says of P7's Write and of a Read of USER 2 and 3, both in Open, and what that is on the worked image
-abbrev linkIn : Link
+abbrev pub linkIn : Link
 linkIn = link 0x1234 (cover.Number 0x5A5A) half.Nothing
 
-abbrev opened : Session
+abbrev pub opened : Session
 opened = on (state.Open linkIn) false clear
 
-abbrev writes : Result
+abbrev pub writes : Result
 writes = done workedLayout (air write3 66) clear (state.Open (link 0x1234 cover.Nothing half.Nothing)) (reply.Success 0x1234) (store 31 0xABCD ∷ [])
 
-abbrev reads : Result
+abbrev pub reads : Result
 reads = done workedLayout (air readTwo 58) clear (state.Open (link 0x1234 cover.Nothing half.Nothing)) (reply.Words 30 2 0x1234) []
 
 pub must-write : (A : Program) → Demand2 A → hears A (air write3 66) opened ≡ writes

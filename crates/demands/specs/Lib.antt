@@ -10,3 +10,4 @@ pub mod Met
 pub mod Empty
 pub mod Answers
 pub mod Refusals
+pub mod Faults
