@@ -14,10 +14,18 @@ use Rattle.image.specs.declared.Section.{Section}
 use Rattle.image.specs.declared.Layout.{Layout}
 use Rattle.image.specs.Layout.{blocksIn, pairsIn}
 use Rattle.image.specs.Content.{lockWord, lengthOf, permalock}
+use Rattle.frames.specs.declared.Span.{Span}
+use Rattle.frames.specs.declared.Order.{Order}
+use Rattle.frames.specs.declared.Order.the-variants as order
 use Rattle.frames.specs.Frames.{span}
 use Rattle.rights.specs.declared.Code.{Code}
 use Rattle.rights.specs.declared.Code.the-variants as code
 use Rattle.rights.specs.Rights.{bankOf, pastEnd, noRight, other, pwdBit, permaBit, mayRead, mayWrite, beyond, badPc, spanWords, readCode, writeCode, lockedTo, lockCode, pairBreaks, somePermalock, userOpenForGood, notPerma, permaReadCode, permaCode}
+use Rattle.states.specs.declared.Half.{Half}
+use Rattle.states.specs.declared.Half.the-variants as half
+use Rattle.states.specs.Commands.{linkOf, isSecured, zeroKill}
+use Rattle.plans.specs.Effects.{Scene, kill, access, effectOf}
+use Rattle.demands.specs.Demands.{AnErrorCode}
 use Rattle.demands.specs.Refusals.{Within, Past, TakesPc, AllRight}
 
 pub or-right : (a b : Bool) → b ≡ true → a || b ≡ true
@@ -159,3 +167,71 @@ module _ (y : Layout) (m : List ℕ) (f : List ℕ) (p n at : ℕ) where
           go : (t : Bool) → eqb (bitAt f (at + k)) 0 ≡ t → t || ltb (16 * p + k) (blocksIn y) ≡ true
           go true z = refl
           go false z = lt-ltb (16 * p + k) (blocksIn y) (g k i (eqb-false (bitAt f (at + k)) 0 z))
+
+-- no code, or one of the three
+abbrev pub Among : Code → Type 0
+Among e = (e ≡ code.Nothing) ⊎ AnErrorCode e
+
+among-past : Among pastEnd
+among-past = inr (inr (inl refl))
+
+among-right : Among noRight
+among-right = inr (inr (inr refl))
+
+among-other : Among other
+among-other = inr (inl refl)
+
+among-if : (b : Bool) (e d : Code) → Among e → Among d → Among (cond b e d)
+among-if true e d p q = p
+among-if false e d p q = q
+
+read-among : (y : Layout) (m : List ℕ) (q : Bool) (s : Span) → Among (readCode y m q s)
+unfolding readCode
+read-among y m q s =
+    among-if (beyond (bankOf y (s .bank)) s) pastEnd _ among-past
+    (among-if (not (every (λ j. mayRead y m q (s .bank) (s .pointer + j)) (spanWords (bankOf y (s .bank)) s))) noRight code.Nothing among-right (inl refl))
+
+write-among : (y : Layout) (m : List ℕ) (q : Bool) (s : Span) (pc : ℕ) → Among (writeCode y m q s pc)
+unfolding writeCode
+write-among y m q s pc =
+    among-if (beyond (bankOf y (s .bank)) s) pastEnd _ among-past
+    (among-if (not (every (λ j. mayWrite y m q (s .bank) (s .pointer + j)) (s .count))) noRight _ among-right
+    (among-if (badPc y s pc) pastEnd _ among-past (among-if (ltb (pairsIn y) (s .count)) other code.Nothing among-other (inl refl))))
+
+lock-among : (y : Layout) (m : List ℕ) (mask action : ℕ) → Among (lockCode y m mask action)
+unfolding lockCode
+lock-among y m mask action =
+    let new = lockedTo (lockWord y m) mask action in
+    among-if (not (every (λ k. not (pairBreaks (lockWord y m) new k)) 5)) noRight _ among-right
+    (among-if (not (eqb (mask % 4) 0) && userOpenForGood new && somePermalock y m) noRight code.Nothing among-right (inl refl))
+
+perma-among : (y : Layout) (m : List ℕ) (s : Span) (f : List ℕ) (p : ℕ) → Among (permaReadCode y s) × Among (permaCode y m s f p)
+unfolding permaReadCode permaCode
+perma-among y m s f p = (
+  among-if (notPerma y s) pastEnd code.Nothing among-past (inl refl),
+  among-if (notPerma y s) pastEnd _ among-past
+      (among-if (not (every (λ k. eqb (bitAt f (p + k)) 0 || ltb (16 * s .pointer + k) (blocksIn y)) (16 * s .count))) pastEnd _ among-past
+      (among-if (userOpenForGood (lockWord y m)) noRight code.Nothing among-right (inl refl))),
+)
+
+pub effect-among : (c : Scene) (o : Order) → Among (effectOf c o .code)
+effect-among c order.ReqRn = inl refl
+effect-among c (order.Read s) = read-among (c .layout) (c .image) (isSecured (c .state)) s
+effect-among c (order.Write s w) = write-among (c .layout) (c .image) (isSecured (c .state)) s _
+effect-among c (order.Kill w) = go (linkOf (c .state) .half)
+  where
+    go : (p : Half) → Among (kill c w p .code)
+    go half.Nothing = among-if (zeroKill (c .layout) (c .image)) other code.Nothing among-other (inl refl)
+    go (half.Access up) = inl refl
+    go (half.Kill up) = inl refl
+effect-among c (order.Lock mask action) = lock-among (c .layout) (c .image) mask action
+effect-among c (order.Access w) = go (linkOf (c .state) .half)
+  where
+    go : (p : Half) → Among (access c w p .code)
+    go half.Nothing = inl refl
+    go (half.Access up) = inl refl
+    go (half.Kill up) = inl refl
+effect-among c (order.BlockWrite s at) = write-among (c .layout) (c .image) (isSecured (c .state)) s _
+effect-among c (order.BlockErase s) = write-among (c .layout) (c .image) (isSecured (c .state)) s 0
+effect-among c (order.ReadPermalock rfu s) = perma-among (c .layout) (c .image) s (c .frame) 0 .0
+effect-among c (order.Permalock rfu s at) = perma-among (c .layout) (c .image) s (c .frame) at .1

@@ -25,11 +25,12 @@ use Rattle.stores.proofs.Cuts.{cuts, power-good, power-word, power-settles}
 use Rattle.tag.specs.Session.{offSession, newSession}
 use Rattle.tag.specs.Result.{Result}
 use Rattle.tag.specs.Power.{poweredTo, firstIn, started, powerUpOf}
-use Rattle.demands.specs.Calls.{Tag, answerOf, torn}
+use Rattle.demands.specs.Calls.{Tag, answerOf, wordsIn, torn}
 use Rattle.demands.specs.Commands.{Start}
-use Rattle.demands.specs.Demands.{Storing, byRadio, byPort, told, Stores, powerUps, Unbroken, Demand3}
+use Rattle.demands.specs.Demands.{Storing, byRadio, byPort, told, Stores, powerUps, Unbroken, Cuts, Demand3}
 use Rattle.demands.proofs.Plans.{plan-change}
-use Rattle.demands.proofs.Rows.{Refused, Acting, wordsOf, acts}
+use Rattle.demands.proofs.Rows.{Refused, Acting, wordsOf, acts, words-told}
+use Rattle.demands.proofs.Rising.{rising}
 
 -- a power-up of a good image
 module _ (y : Layout) (m : List ℕ) (g : Good y m) where
@@ -97,26 +98,20 @@ pub torn-told : (t : Tag) (c : Storing) (k j : ℕ) → torn answerOf t (told c 
 torn-told t (byRadio f bits fresh room) k j = refl
 torn-told t (byPort at d) k j = refl
 
--- the words that 3n + 2 stores change are n
-count-of : (w n : ℕ) (ws : List Store) → length (changeStores w ws) ≡ 3 * n + 2 → length ws ≡ n
-count-of w n [] e = absurd (omega (arith, e))
-count-of w n (x ∷ xs) e =
-    let d : length (x ∷ xs) ≡ 0 → ⊥ = λ q. omega arith in
-    let z : 3 * length (x ∷ xs) + 2 ≡ 3 * n + 2 = sym (change-needs w (x ∷ xs) ∙ ap (λ (t : Bool). cond t 0 (3 * length (x ∷ xs) + 2)) (ne-eqb _ _ d)) ∙ e in
-    omega arith
-
-module _ (y : Layout) (t : Tag) (c : Storing) (n enough : ℕ) (h : Stores answerOf y t c n enough) (ws : List Store) (a : Acting y t c ws) where
+module _ (y : Layout) (t : Tag) (c : Storing) (n enough : ℕ) (h : Stores answerOf y t c n enough) (ws : List Store) (own : wordsIn t (told c enough) ≡ ws) (a : Acting y t c ws) where
   g : Good y (t .image)
   g = check-good (t .image) y (h .idle .sound)
 
   whole : length (changeStores (y .work .at) ws) ≤ enough
   whole = a .whole enough (h .done)
 
-  pub needs : length (changeStores (y .work .at) ws) ≡ 3 * n + 2
-  needs = let z = sym (a .stores enough) ∙ h .stores in omega (arith, whole, z)
-
   words : length ws ≡ n
-  words = count-of (y .work .at) n ws needs
+  words = ap length (sym own) ∙ h .words
+
+  pub needs : length (changeStores (y .work .at) ws) ≡ 3 * n + 2
+  needs =
+      let d : length ws ≡ 0 → ⊥ = λ q. omega (arith, words, h .some) in
+      change-needs (y .work .at) ws ∙ ap (λ (t : Bool). cond t 0 (3 * length ws + 2)) (ne-eqb (length ws) 0 d) ∙ ap (λ (k : ℕ). 3 * k + 2) words
 
   laws : CutLaws y (t .image) ws
   laws = cuts y (t .image) ws (h .bytes) g (a .idle) (plan-change y (t .image) g ws (a .idle) (a .plan) (omega (arith, words, h .some)))
@@ -154,6 +149,12 @@ module _ (y : Layout) (t : Tag) (c : Storing) (n enough : ℕ) (h : Stores answe
       ap (λ (x : List ℕ). wordAt x i) (power-whole y _ (subst (Good y) (sym done) (laws .good d [])) k z ∙ ap powerUp done)
       ∙ laws .new d [] (omega (arith, needs, words, whole)) i l
 
+  -- a good image has a whole power-up
+  begins : (m : List ℕ) → Good y m → (u : ℕ) → 257 ≤ u → powerUpOf m u .number ≡ 0
+  begins m k u l =
+      let few : length (powerStores (layoutOf m) m) ≤ u = subst (λ (z : Layout). length (powerStores z m) ≤ u) (k .layout) (omega (arith, l, power-needs y m k)) in
+      ap (λ (r : Result). r .number) (power-done y m k u few)
+
   unbroken : (f : Cut) (fs : List Cut) → Unbroken answerOf y t c n enough (reaches y f) (powerUps answerOf fs (torn answerOf t (told c (f .whole)) (f .byte)))
   unfolding left
   unbroken f fs =
@@ -161,20 +162,25 @@ module _ (y : Layout) (t : Tag) (c : Storing) (n enough : ℕ) (h : Stores answe
         old = λ l j k p q i b.
             left-word f fs j i p ∙ laws .old f fs (omega (arith, words, l)) i b ∙ sym (ap (λ (x : List ℕ). wordAt x i) (power-whole y (t .image) g k q));
         new = λ l j k p q i b. left-word f fs j i p ∙ laws .new f fs (omega (arith, words, l)) i b ∙ sym (done-word k i b q);
-        starts = λ u l.
-            (let m = left f fs in
-            let few : length (powerStores (layoutOf m) m) ≤ u =
-            subst (λ (z : Layout). length (powerStores z m) ≤ u) (left-good f fs .layout) (omega (arith, l, power-needs y m (left-good f fs))) in
-            ap (λ (r : Result). r .number) (power-done y m (left-good f fs) u few));
+        starts = λ u l. begins (left f fs) (left-good f fs) u l;
+      }
+
+  all-cuts : Cuts answerOf y t c n enough
+  all-cuts =
+      record {
+        stores = a .stores enough ∙ (let z = needs in omega (arith, whole, z));
+        rising = rising t (told c enough);
+        never = begins (t .image) g;
+        finished = begins (answerOf t (told c enough) .image) (subst (Good y) (sym done) (laws .good (record { whole = enough; byte = 0 }) []));
+        cut = unbroken;
       }
 
 pub demand-3 : Demand3 answerOf
-demand-3 y t c n enough h f fs = go (acts y t c enough (check-good (t .image) y (h .idle .sound)))
+demand-3 y t c n enough h = go (acts y t c enough (check-good (t .image) y (h .idle .sound)))
   where
-    go : Refused (t .image) (answerOf t (told c enough)) ⊎ Acting y t c (wordsOf t c)
-        → Unbroken answerOf y t c n enough (reaches y f) (powerUps answerOf fs (torn answerOf t (told c (f .whole)) (f .byte)))
+    go : Refused (t .image) (answerOf t (told c enough)) ⊎ Acting y t c (wordsOf t c) → Cuts answerOf y t c n enough
     go (inl r) = absurd (omega (arith, h .done, r .1))
-    go (inr a) = unbroken y t c n enough h (wordsOf t c) a f fs
+    go (inr a) = all-cuts y t c n enough h (wordsOf t c) (words-told t c enough) a
 
 -- a whole power-up, for any good image
 pub started-so : (y : Layout) (m : List ℕ) → checkOf m ≡ good y → Start answerOf y m (after m (powerStores y m))

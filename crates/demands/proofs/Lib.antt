@@ -1,10 +1,11 @@
 pub mod Sound
 pub mod Plans
 pub mod Rows
+pub mod Rising
 pub mod Cuts
 pub mod Runs
 pub mod Whole
+pub mod Codes
 pub mod Tables
 pub mod Commands
-pub mod Codes
 pub mod Refusals

@@ -33,7 +33,7 @@ use Rattle.tag.specs.Session.{offSession}
 use Rattle.tag.specs.Table.{Input, input, isOff, liveOf, broken, comes, effect, replyOr, isError, replyOf, fits, storesOf, replied, cut, rows, frameOf}
 use Rattle.tag.specs.Port.{badCount, badData, portWords, refusals, registerTo, withKilled, withUnwritten, someUnwritten, writeOf}
 use Rattle.tag.proofs.Plans.{none-or}
-use Rattle.demands.specs.Calls.{Tag, answerOf}
+use Rattle.demands.specs.Calls.{Tag, answerOf, wordsIn}
 use Rattle.demands.specs.Demands.{Storing, byRadio, byPort, told}
 use Rattle.demands.proofs.Plans.{Plan, no-plan, order-plan, port-plan}
 
@@ -328,3 +328,14 @@ acts y t c s g = subst (λ (z : Layout). Refused (t .image) (answerOf t (told c 
     go : (c : Storing) → Refused (t .image) (answerOf t (told c s)) ⊎ Acting (layoutOf (t .image)) t c (wordsOf t c)
     go (byRadio f bits fresh room) = frame-acts (t .session) (t .image) f bits fresh room h s
     go (byPort at d) = write-acts (t .session) (t .image) at d h s
+
+-- the words do not hang on the power
+pub words-told : (t : Tag) (c : Storing) (s : ℕ) → wordsIn t (told c s) ≡ wordsOf t c
+unfolding wordsOf
+words-told t (byRadio f bits fresh room) s = go (heardOf f bits)
+  where
+    go : (x : Heard) → comes (input (t .session) (t .image) f bits fresh room s) x .words ≡ comes (input (t .session) (t .image) f bits fresh room 0) x .words
+    go heard.Malformed = refl
+    go heard.Nak = refl
+    go (heard.Said c) = refl
+words-told t (byPort at d) s = refl

@@ -1,13 +1,13 @@
 -- Demand 1: each promise allows one outcome, and each answer leaves what the table says. Assumes nothing.
 use Prim.Native.Nat.{ℕ, _*_, _/_, _≤_, _<_}
 use mathlib.Core.Path.{_≡_, refl, sym, ap, _∙_}
-use mathlib.Core.Logic.{⊎-elim}
+use mathlib.Core.Logic.{inl, inr, ⊎-elim}
 use mathlib.Core.Bool.{false≢true, Bool, true, false, cond, not, _&&_, _||_}
 use mathlib.Core.List.{List, [], _∷_, _++_}
 use native.Mathlib.Omega.{arith}
 use lib.Dec.{eqb, leb, ltb, lit≤}
 use lib.ListN.{length, take}
-use borrow.Author.Tests.{eqb-true, leb-true, ltb-true}
+use borrow.Author.Tests.{eqb-true, leb-true, ltb-true, eq-eqb, ne-eqb}
 use Rattle.bits.specs.Words.{after}
 use Rattle.bits.specs.Bits.{wordsBits}
 use Rattle.bits.proofs.Below.{and-right, or-cases}
@@ -15,6 +15,9 @@ use Rattle.image.specs.Layout.{layoutOf, within}
 use Rattle.image.specs.declared.Fit.{Fit}
 use Rattle.image.specs.declared.Fit.the-variants as fit
 use Rattle.image.specs.Check.{Checked, refused, good, meaning, imageRows}
+use Rattle.frames.specs.declared.Heard.{Heard}
+use Rattle.frames.specs.declared.Heard.the-variants as heard
+use Rattle.frames.specs.Frames.{heardOf}
 use Rattle.replies.specs.declared.Reply.{Reply}
 use Rattle.replies.specs.declared.Reply.the-variants as reply
 use Rattle.replies.specs.Replies.{replyBits, replyLength}
@@ -30,11 +33,12 @@ use Rattle.tag.specs.Result.{Result, leaves, gives}
 use Rattle.tag.specs.One.{one-outcome}
 use Rattle.states.specs.Commands.{linkOf, isKilled, used, isArbitrate, isLinked}
 use Rattle.tag.specs.Power.{poweredTo, firstIn, started, powerUpOf}
-use Rattle.tag.specs.Table.{Input, input, stateOf, liveOf, isOff, isError, effect, replyOr, replyOf, fits, storesOf, movedTo, dropped, replied, rows, frameOf, answered, admitOf}
+use Rattle.tag.specs.Table.{Input, input, scene, comes, stateOf, liveOf, isOff, isError, effect, replyOr, replyOf, fits, storesOf, movedTo, dropped, replied, rows, frameOf, answered, admitOf}
 use Rattle.tag.specs.Port.{heldTo, told, askOf, releaseOf, registerOf, badCount, badData, readBits, portWords, someUnwritten, registerTo, withKilled, withUnwritten, refusals, readOf, writeOf}
-use Rattle.demands.specs.Calls.{Call, powerUp, admit, frame, ask, release, register, read, write, Tag, answerOf, sessionIn, imageIn, roomIn, powerIn, storesIn}
-use Rattle.demands.specs.Demands.{refuses, Tabled, Demand1}
+use Rattle.demands.specs.Calls.{Call, powerUp, admit, frame, ask, release, register, read, write, Tag, answerOf, sessionIn, imageIn, roomIn, powerIn, storesIn, valueIn}
+use Rattle.demands.specs.Demands.{refuses, AnErrorCode, Tabled, Demand1}
 use Rattle.demands.proofs.Rows.{Each, first-each}
+use Rattle.demands.proofs.Codes.{Among, effect-among}
 
 refusal-small : (n : ℕ) → refuses n ≡ true → n ≤ 13
 refusal-small n e =
@@ -55,21 +59,30 @@ module _ (t : Tag) (c : Call) where
       record {
         listed = refusal-small n e;
         refused = λ q. refl;
-        error = λ q. absurd (false≢true (sym (ap refuses q) ∙ e));
-        lost = λ q. absurd (false≢true (sym (ap refuses q) ∙ e));
-        dropped = λ q. absurd (false≢true (sym (ap refuses q) ∙ e));
+        error = λ q. absurd (other q refl);
+        coded = λ q. absurd (other q refl);
+        lost = λ q. absurd (other q refl);
+        dropped = λ q. absurd (other q refl);
         silent = λ q. refl;
+        made = λ q. absurd (other q refl);
+        value = sym (ap (λ (b : Bool). cond b (valueIn t c) 0) (ne-eqb n 0 (λ q. other q refl)));
       }
+    where
+      other : {k : ℕ} → n ≡ k → refuses k ≡ false → ⊥
+      other q f = false≢true (sym f ∙ sym (ap refuses q) ∙ e)
 
-  zero-answer : (r : Result) → r .number ≡ 0 → (r .reply ≡ 0 → r .room ≡ roomIn c) → Tabled t c r
-  zero-answer r z s =
+  zero-answer : (r : Result) → r .number ≡ 0 → (r .reply ≡ 0 → r .room ≡ roomIn c) → r .stores ≡ length (storesIn t c) → r .value ≡ valueIn t c → Tabled t c r
+  zero-answer r z s k v =
       record {
         listed = omega (arith, z);
         refused = λ q. absurd (false≢true (sym (ap refuses z) ∙ q));
         error = λ q. absurd (omega (arith, z, q));
+        coded = λ q. absurd (omega (arith, z, q));
         lost = λ q. absurd (omega (arith, z, q));
         dropped = λ q. absurd (omega (arith, z, q));
         silent = s;
+        made = λ q. k;
+        value = v ∙ sym (ap (λ (b : Bool). cond b (valueIn t c) 0) (eq-eqb (r .number) 0 z));
       }
 
   lost-answer : powerIn c < length (storesIn t c)
@@ -79,9 +92,12 @@ module _ (t : Tag) (c : Call) where
         listed = lit≤ tt;
         refused = λ q. absurd (false≢true q);
         error = λ q. absurd (omega arith);
+        coded = λ q. absurd (omega arith);
         lost = λ q. (l, refl);
         dropped = λ q. absurd (omega arith);
         silent = λ q. refl;
+        made = λ q. absurd (omega arith);
+        value = refl;
       }
 
 -- a frame's rows
@@ -104,6 +120,20 @@ module _ (v : Session) (m f : List ℕ) (bits fresh : ℕ) (room : List ℕ) (s 
   error-same code.Nothing b h r q = absurd (false≢true q)
   error-same (code.Error c) b h r q = refl
 
+  -- and it is one of the three
+  heard-among : Among (effect handed .code)
+  unfolding handed
+  heard-among = go (heardOf f bits)
+    where
+      go : (x : Heard) → Among (comes handed x .code)
+      go heard.Malformed = inl refl
+      go heard.Nak = inl refl
+      go (heard.Said k) = effect-among (scene handed) (k .order)
+
+  code-known : (e : Code) (b : Bool) → Among e → isError e && b ≡ true → AnErrorCode e
+  code-known e b (inl q) d = absurd (false≢true (sym (ap (λ (x : Code). isError x && b) q) ∙ d))
+  code-known e b (inr q) d = q
+
   error-row : isError (effect handed .code) && fits (replyOf handed) room ≡ true → Tabled tag call (replied handed 10 (used (stateOf handed)) [])
   unfolding tag call handed
   error-row e =
@@ -115,9 +145,12 @@ module _ (v : Session) (m f : List ℕ) (bits fresh : ℕ) (room : List ℕ) (s 
         listed = lit≤ tt;
         refused = λ q. absurd (false≢true q);
         error = λ q. (refl, refl, refl, error-length c b h d e, ap (λ (x : Reply). packed (replyBits m x) room) (error-same c b h d e));
+        coded = λ q. code-known c b heard-among e;
         lost = λ q. absurd (omega arith);
         dropped = λ q. absurd (omega arith);
         silent = silence m room (replyOf handed);
+        made = λ q. absurd (omega arith);
+        value = refl;
       }
 
   dropped-row : Tabled tag call (dropped handed)
@@ -127,9 +160,12 @@ module _ (v : Session) (m f : List ℕ) (bits fresh : ℕ) (room : List ℕ) (s 
         listed = lit≤ tt;
         refused = λ q. absurd (false≢true q);
         error = λ q. absurd (omega arith);
+        coded = λ q. absurd (omega arith);
         lost = λ q. absurd (omega arith);
         dropped = λ q. refl;
         silent = λ q. refl;
+        made = λ q. absurd (omega arith);
+        value = refl;
       }
 
   frame-rows : Each (Tabled tag call) (rows handed)
@@ -164,7 +200,7 @@ module _ (v : Session) (m f : List ℕ) (bits fresh : ℕ) (room : List ℕ) (s 
   unfolding frameOf tag call handed
   frame-tabled =
       first-each (Tabled tag call) (rows handed) (replied handed 0 (effect handed .state) (storesOf handed)) frame-rows
-      (zero-answer tag call (replied handed 0 (effect handed .state) (storesOf handed)) refl (silence m room (replyOf handed)))
+      (zero-answer tag call (replied handed 0 (effect handed .state) (storesOf handed)) refl (silence m room (replyOf handed)) refl refl)
 
 -- the rows before a transfer's own
 module _ (v : Session) (m : List ℕ) where
@@ -177,7 +213,7 @@ module _ (v : Session) (m : List ℕ) where
       let c = read at count room in
       first-each (Tabled tag-of c) (refusals v m room (badCount (layoutOf m) at count) ++ ((leaves 4 v m room, ltb (length room) (2 * count)) ∷ [])) _
       (λ e. refusal tag-of c 1 refl, (λ e. refusal tag-of c 2 refl, (λ e. refusal tag-of c 3 refl, (λ e. refusal tag-of c 5 refl, (λ e. refusal tag-of c 6 refl, (λ e. refusal tag-of c 13 refl, (λ e. refusal tag-of c 4 refl, tt)))))))
-      (zero-answer tag-of c _ refl (λ q. no-words (isKilled (liveOf (v .power) .state)) count (omega (arith, q))))
+      (zero-answer tag-of c _ refl (λ q. no-words (isKilled (liveOf (v .power) .state)) count (omega (arith, q))) refl refl)
     where
       no-words : (k : Bool) (n : ℕ) → n ≡ 0 → packed (readBits (layoutOf m) m k at n) room ≡ room
       no-words k n e = ap (λ (x : ℕ). packed (readBits (layoutOf m) m k at x) room) e ∙ none k
@@ -198,7 +234,7 @@ module _ (v : Session) (m : List ℕ) where
       (refusals v m [] (badData y at d) ++ ((gives 11 offSession 0 s (after m (take s stores)) [], ltb s (length stores)) ∷ []))
       (gives 0 (registerTo l (cond killed (withKilled (l .register)) (withUnwritten (someUnwritten y m at (length d / 2)) (l .register)))) 0 (length stores) (after m stores) [])
       (λ e. refusal tag-of c 1 refl, (λ e. refusal tag-of c 2 refl, (λ e. refusal tag-of c 3 refl, (λ e. refusal tag-of c 5 refl, (λ e. refusal tag-of c 6 refl, (λ e. refusal tag-of c 13 refl, (λ e. lost-answer tag-of c (ltb-true _ _ e), tt)))))))
-      (zero-answer tag-of c _ refl (λ q. refl))
+      (zero-answer tag-of c _ refl (λ q. refl) refl refl)
 
 -- calls without an image, and power-up
 module _ (t : Tag) where
@@ -210,7 +246,7 @@ module _ (t : Tag) where
       let c = admit n in
       first-each (Tabled t c) ((answered 5 s, isOff (s .power)) ∷ (answered 6 s, l .held) ∷ (answered 9 s, not (isArbitrate (l .state))) ∷ [])
       (answered 0 (movedTo l (state.Acknowledged n)))
-      (λ e. refusal t c 5 refl, (λ e. refusal t c 6 refl, (λ e. refusal t c 9 refl, tt))) (zero-answer t c _ refl (λ q. refl))
+      (λ e. refusal t c 5 refl, (λ e. refusal t c 6 refl, (λ e. refusal t c 9 refl, tt))) (zero-answer t c _ refl (λ q. refl) refl refl)
 
   ask-tabled : Tabled t ask (askOf (t .session))
   unfolding askOf
@@ -218,7 +254,7 @@ module _ (t : Tag) where
       let s = t .session in
       let l = liveOf (s .power) in
       first-each (Tabled t ask) ((answered 5 s, isOff (s .power)) ∷ (answered 6 s, l .held || isLinked (l .state)) ∷ []) (answered 0 (heldTo l true))
-      (λ e. refusal t ask 5 refl, (λ e. refusal t ask 6 refl, tt)) (zero-answer t ask _ refl (λ q. refl))
+      (λ e. refusal t ask 5 refl, (λ e. refusal t ask 6 refl, tt)) (zero-answer t ask _ refl (λ q. refl) refl refl)
 
   release-tabled : Tabled t release (releaseOf (t .session))
   unfolding releaseOf
@@ -226,7 +262,7 @@ module _ (t : Tag) where
       let s = t .session in
       let l = liveOf (s .power) in
       first-each (Tabled t release) ((answered 5 s, isOff (s .power)) ∷ (answered 6 s, not (l .held)) ∷ []) (answered 0 (heldTo l false))
-      (λ e. refusal t release 5 refl, (λ e. refusal t release 6 refl, tt)) (zero-answer t release _ refl (λ q. refl))
+      (λ e. refusal t release 5 refl, (λ e. refusal t release 6 refl, tt)) (zero-answer t release _ refl (λ q. refl) refl refl)
 
   register-tabled : Tabled t register (registerOf (t .session))
   unfolding registerOf
@@ -234,7 +270,7 @@ module _ (t : Tag) where
       let s = t .session in
       let l = liveOf (s .power) in
       first-each (Tabled t register) ((answered 5 s, isOff (s .power)) ∷ (answered 6 s, not (l .held)) ∷ []) (told l)
-      (λ e. refusal t register 5 refl, (λ e. refusal t register 6 refl, tt)) (zero-answer t register _ refl (λ q. refl))
+      (λ e. refusal t register 5 refl, (λ e. refusal t register 6 refl, tt)) (zero-answer t register _ refl (λ q. refl) refl refl)
 
   power-tabled : (s : ℕ) → Tabled t (powerUp s) (powerUpOf (t .image) s)
   unfolding powerUpOf started
@@ -245,7 +281,7 @@ module _ (t : Tag) where
       first-each (Tabled t c)
       (imageRows (λ n. leaves n offSession m []) m ++ ((poweredTo 11 offSession s (after m (take s stores)), ltb s (length stores)) ∷ []))
       (poweredTo 0 (newSession (firstIn (layoutOf m) (after m stores))) (length stores) (after m stores))
-      (λ e. refusal t c 1 refl, (λ e. refusal t c 2 refl, (λ e. refusal t c 3 refl, (λ e. lost-answer t c (ltb-true _ _ e), tt)))) (zero-answer t c _ refl (λ q. refl))
+      (λ e. refusal t c 1 refl, (λ e. refusal t c 2 refl, (λ e. refusal t c 3 refl, (λ e. lost-answer t c (ltb-true _ _ e), tt)))) (zero-answer t c _ refl (λ q. refl) refl refl)
 
 tabled : (t : Tag) (c : Call) → Tabled t c (answerOf t c)
 unfolding tag call handed tag-of

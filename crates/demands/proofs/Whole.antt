@@ -21,7 +21,7 @@ use Rattle.tag.specs.Session.{offSession}
 use Rattle.tag.specs.Power.{powerUpOf}
 use Rattle.demands.specs.Calls.{Call, Tag, answerOf, imageAfter, more, torn, Turn, run}
 use Rattle.demands.specs.Demands.{Storing, told, Stores, powerUps, wholePowerUps, Unbroken, Demand3, WholeWords, Kept, AnyRun, wholeRun, WholeRuns}
-use Rattle.demands.proofs.Rows.{Refused, Acting, wordsOf, acts}
+use Rattle.demands.proofs.Rows.{Refused, Acting, wordsOf, acts, words-told}
 use Rattle.demands.proofs.Cuts.{torn-told, needs, demand-3}
 use Rattle.demands.proofs.Runs.{any-run}
 
@@ -69,14 +69,14 @@ whole-words d y t c n enough h s ks = go (acts y t c enough g)
     g = check-good (t .image) y (h .idle .sound)
 
     all : Unbroken answerOf y t c n enough (reaches y (cut y t c s)) (wholePowerUps answerOf ks (left y t c s))
-    all = subst (Unbroken answerOf y t c n enough (reaches y (cut y t c s))) (left-same y t c s ks) (d y t c n enough h (cut y t c s) (wholes ks (left y t c s)))
+    all = subst (Unbroken answerOf y t c n enough (reaches y (cut y t c s))) (left-same y t c s ks) (d y t c n enough h .cut (cut y t c s) (wholes ks (left y t c s)))
 
     go : Refused (t .image) (answerOf t (told c enough)) ⊎ Acting y t c (wordsOf t c)
         → Unbroken answerOf y t c n enough (answerOf t (told c s) .stores) (wholePowerUps answerOf ks (answerOf t (told c s) .image))
     go (inl r) = absurd (omega (arith, h .done, r .1))
     go (inr a) =
         let made = a .stores s in
-        let need = needs y t c n enough h (wordsOf t c) a in
+        let need = needs y t c n enough h (wordsOf t c) (words-told t c enough) a in
         let reach = left-reaches y t c s g (wordsOf t c) a in
         record {
           old = λ l. all .old (omega (arith, made, need, reach, l, h .some));

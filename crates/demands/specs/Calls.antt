@@ -17,8 +17,8 @@ use Rattle.tag.specs.Session.{offSession}
 use Rattle.tag.specs.Result.{Result, result}
 use Rattle.states.specs.Commands.{isKilled}
 use Rattle.tag.specs.Power.{powerUpOf}
-use Rattle.tag.specs.Table.{input, liveOf, effect, storesOf, frameOf, admitOf}
-use Rattle.tag.specs.Port.{askOf, releaseOf, registerOf, readOf, portWords, writeOf}
+use Rattle.tag.specs.Table.{input, liveOf, effect, frameOf, admitOf}
+use Rattle.tag.specs.Port.{numberIn, askOf, releaseOf, registerOf, readOf, portWords, writeOf}
 
 -- what a caller hands over beside the session and the image: a power-up's s; an admission's number; a frame's bytes, bit count, fresh word, room and s;
 -- a read's first word, count and room; a write's first word, data and s
@@ -101,18 +101,26 @@ powerIn register = 0
 powerIn (read at count room) = 0
 powerIn (write at d s) = s
 
--- the stores that it makes where the power lasts
+-- the words that it changes where nothing refuses it; and the stores that it makes where the power lasts
+abbrev pub wordsIn : Tag → Call → List Store
+wordsIn t (powerUp s) = []
+wordsIn t (admit n) = []
+wordsIn t (frame f bits fresh room s) = effect (input (t .session) (t .image) f bits fresh room s) .words
+wordsIn t ask = []
+wordsIn t release = []
+wordsIn t register = []
+wordsIn t (read at count room) = []
+wordsIn t (write at d s) = portWords (layoutOf (t .image)) (t .image) (isKilled (liveOf (t .session .power) .state)) at d
+
 abbrev pub storesIn : Tag → Call → List Store
 storesIn t (powerUp s) = powerStores (layoutOf (t .image)) (t .image)
 storesIn t (admit n) = []
-storesIn t (frame f bits fresh room s) = storesOf (input (t .session) (t .image) f bits fresh room s)
+storesIn t (frame f bits fresh room s) = changeStores (layoutOf (t .image) .work .at) (wordsIn t (frame f bits fresh room s))
 storesIn t ask = []
 storesIn t release = []
 storesIn t register = []
 storesIn t (read at count room) = []
-storesIn t (write at d s) =
-    let y = layoutOf (t .image) in
-    changeStores (y .work .at) (portWords y (t .image) (isKilled (liveOf (t .session .power) .state)) at d)
+storesIn t (write at d s) = changeStores (layoutOf (t .image) .work .at) (wordsIn t (write at d s))
 
 -- the error code of a frame's command
 abbrev pub codeIn : Tag → Call → Code
@@ -124,6 +132,17 @@ codeIn t release = code.Nothing
 codeIn t register = code.Nothing
 codeIn t (read at count room) = code.Nothing
 codeIn t (write at d s) = code.Nothing
+
+-- what it hands back as a value where it is done: the register, 0 where it reads none
+abbrev pub valueIn : Tag → Call → ℕ
+valueIn t (powerUp s) = 0
+valueIn t (admit n) = 0
+valueIn t (frame f bits fresh room s) = 0
+valueIn t ask = 0
+valueIn t release = 0
+valueIn t register = numberIn (liveOf (t .session .power) .register)
+valueIn t (read at count room) = 0
+valueIn t (write at d s) = 0
 
 -- the image after a call: it stays where the call has none
 abbrev pub imageAfter : Program → Tag → Call → List ℕ

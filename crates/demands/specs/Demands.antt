@@ -2,11 +2,12 @@
 -- Assumes nothing.
 use Prim.Native.Nat.{ℕ, _+_, _*_, _/_, _≤_, _<_}
 use mathlib.Core.Path.{_≡_}
-use mathlib.Core.Bool.{Bool, true, _||_}
+use mathlib.Core.Logic.{_⊎_}
+use mathlib.Core.Bool.{Bool, true, cond, _||_}
 use mathlib.Core.List.{List, [], _∷_, _++_}
 use lib.Dec.{eqb}
 use lib.ListN.{length, take}
-use Rattle.bits.specs.Words.{Bytes, wordAt, after}
+use Rattle.bits.specs.Words.{Bytes, wordAt, Store, after}
 use Rattle.image.specs.declared.Layout.{Layout}
 use Rattle.image.specs.Layout.{end, blocksIn, within}
 use Rattle.image.specs.Content.{lockWord, permalock}
@@ -15,6 +16,8 @@ use Rattle.image.specs.Check.{checkOf, meaning, good}
 use Rattle.replies.specs.declared.Reply.the-variants as reply
 use Rattle.replies.specs.Replies.{replyBits}
 use Rattle.replies.specs.Pack.{packed}
+use Rattle.rights.specs.declared.Code.{Code}
+use Rattle.rights.specs.declared.Code.the-variants as code
 use Rattle.rights.specs.Rights.{pwdBit, permaBit}
 use Rattle.stores.specs.Cuts.{Cut, reaches}
 use Rattle.states.specs.declared.State.the-variants as state
@@ -24,7 +27,7 @@ use Rattle.tag.specs.Session.{offSession}
 use Rattle.tag.specs.Result.{Result, leaves}
 use Rattle.states.specs.Commands.{linkOf, used}
 use Rattle.tag.specs.Table.{liveOf, replyOr, movedTo}
-use Rattle.demands.specs.Calls.{Call, powerUp, frame, write, Tag, Program, asked, Meets, sessionIn, imageIn, roomIn, powerIn, storesIn, codeIn, imageAfter, torn, Turn, run, Idle}
+use Rattle.demands.specs.Calls.{Call, powerUp, frame, write, Tag, Program, asked, Meets, sessionIn, imageIn, roomIn, powerIn, wordsIn, storesIn, codeIn, valueIn, imageAfter, torn, Turn, run, Idle}
 
 -- DEMAND 1. Every image, frame and SPI transaction that can be handed over gets one answer of the table; a refusal leaves what the table says.
 
@@ -34,7 +37,11 @@ refuses n = within 1 9 n || eqb n 13
 
 -- number by number: 1 to 9 and 13 leave everything; 10 gives the error reply of its code, leaves the image and uses up the cover number; 11 comes where
 -- the power lasts for fewer stores than are needed, and leaves the first s of them, Off and no reply;
--- 12 leaves the image, Arbitrate and no reply; and an answer without a reply changes no byte of the room
+-- 12 leaves the image, Arbitrate and no reply; and an answer without a reply changes no byte of the room. Done, it makes the stores of its words and no other
+-- (none where it changes no word, 3n + 2 for n); a value is handed back where the register is read, and is 0 elsewhere
+abbrev pub AnErrorCode : Code → Type 0
+AnErrorCode e = (e ≡ code.Error 0x00) ⊎ (e ≡ code.Error 0x03) ⊎ (e ≡ code.Error 0x04)
+
 pub record Tabled (t : Tag) (c : Call) (r : Result) : Type 0 where
   pub listed : r .number ≤ 13
   pub refused : refuses (r .number) ≡ true → r ≡ leaves (r .number) (sessionIn t c) (imageIn t c) (roomIn c)
@@ -45,11 +52,14 @@ pub record Tabled (t : Tag) (c : Call) (r : Result) : Type 0 where
       × (r .session ≡ movedTo l (used (l .state)))
       × (r .reply ≡ 41)
       × (r .room ≡ packed (replyBits (t .image) (replyOr (codeIn t c) (linkOf (l .state) .handle) reply.Silence)) (roomIn c))
+  pub coded : r .number ≡ 10 → AnErrorCode (codeIn t c)
   pub lost : r .number ≡ 11
       → (powerIn c < length (storesIn t c))
       × (r ≡ record { number = 11; session = offSession; reply = 0; stores = powerIn c; value = 0; image = after (imageIn t c) (take (powerIn c) (storesIn t c)); room = roomIn c })
   pub dropped : r .number ≡ 12 → r ≡ leaves 12 (movedTo (liveOf (t .session .power)) state.Arbitrate) (imageIn t c) (roomIn c)
   pub silent : r .reply ≡ 0 → r .room ≡ roomIn c
+  pub made : r .number ≡ 0 → r .stores ≡ length (storesIn t c)
+  pub value : r .value ≡ cond (eqb (r .number) 0) (valueIn t c) 0
 
 pub record Demand1 (A : Program) : Type 0 where
   pub check : (m : List ℕ) (p q : Fit) → meaning p ≡ checkOf m → meaning q ≡ checkOf m → p ≡ q
@@ -72,13 +82,19 @@ abbrev pub told : Storing → ℕ → Call
 told (byRadio f bits fresh room) s = frame f bits fresh room s
 told (byPort at d) s = write at d s
 
--- from a good image with nothing pending, c stores n words where the power lasts for `enough`; what is lent as an image consists of bytes
+-- words go in rising address order
+abbrev pub Rising : List Store → Type 0
+Rising [] = Unit {0}
+Rising (s ∷ []) = Unit {0}
+Rising (s ∷ u ∷ ss) = (s .at < u .at) × Rising (u ∷ ss)
+
+-- from a good image with nothing pending, c is done with power for `enough`, and changes n words; what is lent as an image consists of bytes
 pub record Stores (A : Program) (y : Layout) (t : Tag) (c : Storing) (n enough : ℕ) : Type 0 where
   pub bytes : Bytes (t .image)
   pub idle : Idle y (t .image)
   pub some : 1 ≤ n
   pub done : A t (told c enough) .number ≡ 0
-  pub stores : A t (told c enough) .stores ≡ 3 * n + 2
+  pub words : length (wordsIn t (told c enough)) ≡ n
 
 -- a power-up of the image m with power for s stores; the image after power-ups, each cut
 abbrev pub start : Program → List ℕ → ℕ → Result
@@ -100,10 +116,16 @@ pub record Unbroken (A : Program) (y : Layout) (t : Tag) (c : Storing) (n enough
   pub new : 2 * n < k → SameOnce A y m (A t (told c enough) .image)
   pub starts : (u : ℕ) → 257 ≤ u → start A m u .number ≡ 0
 
+-- it makes 3n + 2 stores for its words, which rise; the two images to compare with have a whole power-up; and cut anywhere it is unbroken
+pub record Cuts (A : Program) (y : Layout) (t : Tag) (c : Storing) (n enough : ℕ) : Type 0 where
+  pub stores : A t (told c enough) .stores ≡ 3 * n + 2
+  pub rising : Rising (wordsIn t (told c enough))
+  pub never : (u : ℕ) → 257 ≤ u → start A (t .image) u .number ≡ 0
+  pub finished : (u : ℕ) → 257 ≤ u → start A (A t (told c enough) .image) u .number ≡ 0
+  pub cut : (f : Cut) (fs : List Cut) → Unbroken A y t c n enough (reaches y f) (powerUps A fs (torn A t (told c (f .whole)) (f .byte)))
+
 abbrev pub Demand3 : Program → Type 0
-Demand3 A =
-    (y : Layout) (t : Tag) (c : Storing) (n enough : ℕ) → Stores A y t c n enough
-    → (f : Cut) (fs : List Cut) → Unbroken A y t c n enough (reaches y f) (powerUps A fs (torn A t (told c (f .whole)) (f .byte)))
+Demand3 A = (y : Layout) (t : Tag) (c : Storing) (n enough : ℕ) → Stores A y t c n enough → Cuts A y t c n enough
 
 -- So, through any run of commands, SPI transfers, admissions, cuts and power-ups from such an image, with any inputs and any sessions: from any point of
 -- the run to any later one the image stays good, header and TID stay, no permalock is taken off, the pwd bit of a permalocked pair stays, and no USER word of a

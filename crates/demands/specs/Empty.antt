@@ -124,7 +124,7 @@ idling-falls d =
 -- demand 3, at a cut of 1: one store made is at most 2n, but the word is new after the next power-up; torn there, it is neither the old one nor the new one
 sham-stores : Stores shamming workedLayout tag p7 1 5
 unfolding frameOf layoutOf headerGood blocksIn contentGood rulesHold worked wordAt withWord wordsBits bitsOf crcOf fieldAt pointerAt heardOf checksumRight filled packed checked writeCode write3
-sham-stores = record { bytes = worked-bytes; idle = met .idle; some = lit≤ tt; done = refl; stores = refl }
+sham-stores = record { bytes = worked-bytes; idle = met .idle; some = lit≤ tt; done = refl; words = refl }
 
 pub record Sham : Type 0 where
   pub starts : answerOf (record { session = offSession; image = torn shamming tag (told p7 1) 156 }) (powerUp 257) .number ≡ 0
@@ -141,7 +141,7 @@ pub shamming-falls : Demand3 shamming → ⊥
 shamming-falls d =
     let f : Cut = record { whole = 1; byte = 156 } in
     let z : _≡_ {A = ℕ} 0xABCD 10 =
-    sym (sham .mixes) ∙ d workedLayout tag p7 1 5 sham-stores f [] .old (lit≤ tt) 257 257 (sham .starts) (sham .whole) 31 (lit< tt) ∙ sham .old in
+    sym (sham .mixes) ∙ d workedLayout tag p7 1 5 sham-stores .cut f [] .old (lit≤ tt) 257 257 (sham .starts) (sham .whole) 31 (lit< tt) ∙ sham .old in
     omega arith
 
 -- 3n + 2 (demand 2) and s (demand 1): a whole Write makes 5 stores, one with power for 2 makes 2

@@ -153,9 +153,9 @@ met =
       permalocks-right = refl;
       nak = refl;
       engine = (lit≤ tt, refl);
-      radio-done = record { bytes = worked-bytes; idle = record { sound = refl; nothing = refl }; some = lit≤ tt; done = refl; stores = refl };
+      radio-done = record { bytes = worked-bytes; idle = record { sound = refl; nothing = refl }; some = lit≤ tt; done = refl; words = refl };
       radio-whole = (refl, refl);
-      port-done = record { bytes = worked-bytes; idle = record { sound = refl; nothing = refl }; some = lit≤ tt; done = refl; stores = refl };
+      port-done = record { bytes = worked-bytes; idle = record { sound = refl; nothing = refl }; some = lit≤ tt; done = refl; words = refl };
       port-whole = refl;
       locked-block = (are-bytes locked refl, record { sound = refl; nothing = refl }, refl);
     }
