@@ -20,12 +20,12 @@ use Rattle.tag.specs.PortSteps.{heldRow, endRow, readRow, afterKilled}
 use Rattle.capi.specs.declared.Record.{Record}
 use Rattle.capi.specs.Records.{blank, recordIn, recordOf, sessionOf}
 use Rattle.capi.specs.Steps.{nearOf, fitsOf, killedRecord}
-use Rattle.capi.specs.Told.{Left}
+use Rattle.tag.specs.Result.{Left}
 use Rattle.capi.specs.Laws.{only}
 use Rattle.capi.proofs.Fits.{fit-near, unfit-off}
 
 -- what a read leaves, but for its session
-abbrev pub leftBy : ℕ → ℕ → List ℕ → List ℕ → Record → Left
+abbrev pub leftBy : ℕ → ℕ → List ℕ → List ℕ → Record → Left Record
 leftBy number reply image room session =
     record { number = number; session = session; reply = reply; stores = 0; value = 0; image = image; room = room }
 

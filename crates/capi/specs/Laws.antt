@@ -20,7 +20,8 @@ use Rattle.tag.specs.Port.{bitOf}
 use Rattle.capi.specs.declared.Record.{Record}
 use Rattle.capi.specs.declared.Told.{Told}
 use Rattle.capi.specs.Records.{coveredIn, coverIn, halfIn, upperIn, recordIn, recordOf, coverOf, halfOf, looseOf, same, sessionOf}
-use Rattle.capi.specs.Told.{Left, told}
+use Rattle.tag.specs.Result.{Left}
+use Rattle.capi.specs.Told.{told}
 
 bit-again : (b : Bool) → not (eqb (bitOf b) 0) ≡ b
 bit-again true = refl
@@ -91,12 +92,12 @@ only r live = go (same (recordOf (looseOf r .power)) r) refl live
     go false e live = absurd (live (rw e refl))
 
 -- a promise of the form `told r image room ≡ x` allows one outcome
-pub one-told : (p q : Told) (m n a b : List ℕ) (x : Left) → told p m a ≡ x → told q n b ≡ x → (p ≡ q) × (m ≡ n) × (a ≡ b)
+pub one-told : (p q : Told) (m n a b : List ℕ) (x : Left Record) → told p m a ≡ x → told q n b ≡ x → (p ≡ q) × (m ≡ n) × (a ≡ b)
 one-told p q m n a b x e f =
     let g : told p m a ≡ told q n b = e ∙ sym f in (
-      built p q (ap (λ (r : Left). r .number) g) (ap (λ (r : Left). r .session) g) (ap (λ (r : Left). r .reply) g) (ap (λ (r : Left). r .stores) g) (ap (λ (r : Left). r .value) g),
-      ap (λ (r : Left). r .image) g,
-      ap (λ (r : Left). r .room) g,
+      built p q (ap (λ (r : Left Record). r .number) g) (ap (λ (r : Left Record). r .session) g) (ap (λ (r : Left Record). r .reply) g) (ap (λ (r : Left Record). r .stores) g) (ap (λ (r : Left Record). r .value) g),
+      ap (λ (r : Left Record). r .image) g,
+      ap (λ (r : Left Record). r .room) g,
     )
   where
     built : (p q : Told) → p .answer ≡ q .answer → p .session ≡ q .session → p .reply ≡ q .reply → p .stores ≡ q .stores → p .value ≡ q .value → p ≡ q

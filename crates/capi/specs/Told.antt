@@ -6,30 +6,20 @@ use Rattle.image.specs.declared.Layout.{Layout}
 use Rattle.image.specs.Check.{Checked, refused, good}
 use Rattle.tag.specs.declared.Outcome as outcome
 use Rattle.tag.specs.Session.{numberOf}
-use Rattle.tag.specs.Result.{Result}
+use Rattle.tag.specs.Result.{Left, Result}
 use Rattle.capi.specs.declared.Record.{Record}
 use Rattle.capi.specs.declared.Told.{Told}
 use Rattle.capi.specs.declared.Place.{Place}
 use Rattle.capi.specs.declared.Sheet.{Sheet}
 use Rattle.capi.specs.Records.{recordOf}
 
--- a Result whose session is the record
-pub record Left : Type 0 where
-  pub number : ℕ
-  pub session : Record
-  pub reply : ℕ
-  pub stores : ℕ
-  pub value : ℕ
-  pub image : List ℕ
-  pub room : List ℕ
-
 -- what an exported call left
-abbrev pub told : Told → List ℕ → List ℕ → Left
+abbrev pub told : Told → List ℕ → List ℕ → Left Record
 told o image room =
     record { number = o .answer; session = o .session; reply = o .reply; stores = o .stores; value = o .value; image = image; room = room }
 
 -- what the core's promise asks for, with its session written
-abbrev pub toldOf : Result → Left
+abbrev pub toldOf : Result → Left Record
 toldOf r =
     record {
       number = r .number;

@@ -25,7 +25,8 @@ use Rattle.tag.specs.Port.{askOf, releaseOf, registerOf, readOf, writeOf}
 use Rattle.capi.specs.declared.Record.{Record}
 use Rattle.capi.specs.declared.Sheet.{Sheet}
 use Rattle.capi.specs.Records.{recordOf, looseOf, same, sessionOf}
-use Rattle.capi.specs.Told.{Left, toldOf, sheetOf}
+use Rattle.tag.specs.Result.{Left}
+use Rattle.capi.specs.Told.{toldOf, sheetOf}
 
 -- a record by state, port and number, and one with a link
 abbrev of : ℕ → ℕ → ℕ → Record
@@ -67,28 +68,28 @@ readings =
 abbrev checked : Sheet
 checked = sheetOf (checkOf worked)
 
-abbrev powered : Left
+abbrev powered : Left Record
 powered = toldOf (powerUpOf worked 1)
 
-abbrev admitted : Record → Left
+abbrev admitted : Record → Left Record
 admitted r = toldOf (admitOf (sessionOf r) 0x1234)
 
-abbrev heard : Record → Left
+abbrev heard : Record → Left Record
 heard r = toldOf (frameOf (input (sessionOf r) worked (0xC0 ∷ []) 8 0 [] 0))
 
-abbrev asked : Record → Left
+abbrev asked : Record → Left Record
 asked r = toldOf (askOf (sessionOf r))
 
-abbrev released : Record → Left
+abbrev released : Record → Left Record
 released r = toldOf (releaseOf (sessionOf r))
 
-abbrev registered : Record → Left
+abbrev registered : Record → Left Record
 registered r = toldOf (registerOf (sessionOf r))
 
-abbrev shown : Record → Left
+abbrev shown : Record → Left Record
 shown r = toldOf (readOf (sessionOf r) worked 2 1 (replicate 3 0xFF))
 
-abbrev written : Record → Left
+abbrev written : Record → Left Record
 written r = toldOf (writeOf (sessionOf r) worked 2 (0x11 ∷ 0x22 ∷ []) 5)
 
 pub record Small : Type 0 where

@@ -34,7 +34,7 @@ use Rattle.states.specs.declared.Half.{Half}
 use Rattle.states.specs.declared.Half.the-variants as half
 use Rattle.states.specs.declared.State.{State}
 use Rattle.states.specs.Commands.{linkOf, isSecured, uncovered}
-use Rattle.plans.specs.Effects.{Scene, kill, access, placeOf, effectOf}
+use Rattle.plans.specs.Effects.{Scene, halfKill, halfAccess, placeOf, effectOf}
 use Rattle.tag.specs.Port.{portOpen, portWrites, writtenWords}
 use Rattle.tag.proofs.Plans.{within-bank, perma-small, write-rows, perma-rows, lock-rows}
 use Rattle.demands.proofs.Sound.{PairKept, Sound, bank-sound, user-sound, lock-sound, killed-sound, perma-sound}
@@ -106,13 +106,13 @@ module _ (y : Layout) (m : List ℕ) (g : Good y m) where
   at : State → List ℕ → ℕ → Scene
   at st f fresh = record { layout = y; image = m; state = st; frame = f; fresh = fresh }
 
-  kill-plan : (st : State) (f : List ℕ) (fresh w : ℕ) (a : Half) → Plan y m (kill (at st f fresh) w a .words)
+  kill-plan : (st : State) (f : List ℕ) (fresh w : ℕ) (a : Half) → Plan y m (halfKill (at st f fresh) w a .words)
   unfolding at
   kill-plan st f fresh w half.Nothing = no-plan y m
   kill-plan st f fresh w (half.Access up) = no-plan y m
   kill-plan st f fresh w (half.Kill up) = one-plan y m (store (y .status .at + 1) 1) hd (omega (arith, hd)) (killed-sound y m hd)
 
-  access-plan : (c : Scene) (w : ℕ) (a : Half) → Plan y m (access c w a .words)
+  access-plan : (c : Scene) (w : ℕ) (a : Half) → Plan y m (halfAccess c w a .words)
   access-plan c w half.Nothing = no-plan y m
   access-plan c w (half.Access up) = no-plan y m
   access-plan c w (half.Kill up) = no-plan y m

@@ -47,8 +47,8 @@ abbrev pub handleIn : Scene → ℕ
 handleIn c = linkOf (c .state) .handle
 
 -- 3.14: a word or half as sent, without its cover
-abbrev pub plain : Scene → ℕ → ℕ
-plain c w = uncovered (linkOf (c .state) .cover) w
+abbrev pub bare : Scene → ℕ → ℕ
+bare c w = uncovered (linkOf (c .state) .cover) w
 
 -- 3.9 and 3.13: the cover number is used up; words stored are answered with the handle, words of the image are shown
 abbrev pub stores : Scene → List Store → Effect
@@ -62,8 +62,8 @@ abbrev pub waits : Scene → Half → Effect
 waits c h = does (withLink (c .state) (halved (linkOf (c .state)) h)) (reply.Number (handleIn c)) []
 
 -- 3.20: words of a span written, where the word for EPC word 1, if it is among them, is pc
-abbrev pub writes : Scene → Span → ℕ → List Store → Effect
-writes c s pc ws = unless (writeCode (c .layout) (c .image) (isSecured (c .state)) s pc) (stores c ws)
+abbrev pub spanWrites : Scene → Span → ℕ → List Store → Effect
+spanWrites c s pc ws = unless (writeCode (c .layout) (c .image) (isSecured (c .state)) s pc) (stores c ws)
 
 -- where the words of a span stand in the image
 abbrev pub placeOf : Layout → Span → ℕ
@@ -71,16 +71,16 @@ placeOf y s = bankOf y (s .bank) .at + s .pointer
 
 -- a half of Kill, by the half that waits: the first has code 00h where there is no kill password; right Kill stores killed as 1.
 -- Where a half of the other password waits, the answer was 12
-abbrev pub kill : Scene → ℕ → Half → Effect
-kill c h half.Nothing = unless (cond (zeroKill (c .layout) (c .image)) other code.Nothing) (waits c (half.Kill (plain c h)))
-kill c h (half.Kill up) = does state.Killed (reply.Success (handleIn c)) (store (c .layout .status .at + 1) 1 ∷ [])
-kill c h (half.Access up) = does (c .state) reply.Silence []
+abbrev pub halfKill : Scene → ℕ → Half → Effect
+halfKill c h half.Nothing = unless (cond (zeroKill (c .layout) (c .image)) other code.Nothing) (waits c (half.Kill (bare c h)))
+halfKill c h (half.Kill up) = does state.Killed (reply.Success (handleIn c)) (store (c .layout .status .at + 1) 1 ∷ [])
+halfKill c h (half.Access up) = does (c .state) reply.Silence []
 
 -- a half of Access; right Access: Secured
-abbrev pub access : Scene → ℕ → Half → Effect
-access c h half.Nothing = waits c (half.Access (plain c h))
-access c h (half.Access up) = does (state.Secured (halved (linkOf (c .state)) half.Nothing)) (reply.Number (handleIn c)) []
-access c h (half.Kill up) = does (c .state) (reply.Number (handleIn c)) []
+abbrev pub halfAccess : Scene → ℕ → Half → Effect
+halfAccess c h half.Nothing = waits c (half.Access (bare c h))
+halfAccess c h (half.Access up) = does (state.Secured (halved (linkOf (c .state)) half.Nothing)) (reply.Number (handleIn c)) []
+halfAccess c h (half.Kill up) = does (c .state) (reply.Number (handleIn c)) []
 
 -- THE COMMANDS: what each comes to, unless its error code applies. A frame's words begin at its bit p
 abbrev pub effectOf : Scene → Order → Effect
@@ -88,16 +88,16 @@ effectOf c order.ReqRn = does (numbered (c .layout) (c .image) (c .fresh) (c .st
 effectOf c (order.Read s) =
     let bank = bankOf (c .layout) (s .bank) in
     unless (readCode (c .layout) (c .image) (isSecured (c .state)) s) (shows c (bank .at + s .pointer) (spanWords bank s))
-effectOf c (order.Write s w) = writes c s (plain c w) (store (placeOf (c .layout) s) (plain c w) ∷ [])
-effectOf c (order.Kill h) = kill c h (linkOf (c .state) .half)
+effectOf c (order.Write s w) = spanWrites c s (bare c w) (store (placeOf (c .layout) s) (bare c w) ∷ [])
+effectOf c (order.Kill h) = halfKill c h (linkOf (c .state) .half)
 effectOf c (order.Lock mask action) =
     let y = c .layout in
     unless (lockCode y (c .image) mask action) (stores c (store (y .status .at) (lockedTo (lockWord y (c .image)) mask action) ∷ []))
-effectOf c (order.Access h) = access c h (linkOf (c .state) .half)
+effectOf c (order.Access h) = halfAccess c h (linkOf (c .state) .half)
 effectOf c (order.BlockWrite s p) =
     let word : ℕ → ℕ = λ j. fieldAt (c .frame) (p + 16 * j) 16 in
-    writes c s (word (1 - s .pointer)) (below (λ j. store (placeOf (c .layout) s + j) (word j)) (s .count))
-effectOf c (order.BlockErase s) = writes c s 0 (below (λ j. store (placeOf (c .layout) s + j) 0) (s .count))
+    spanWrites c s (word (1 - s .pointer)) (below (λ j. store (placeOf (c .layout) s + j) (word j)) (s .count))
+effectOf c (order.BlockErase s) = spanWrites c s 0 (below (λ j. store (placeOf (c .layout) s + j) 0) (s .count))
 effectOf c (order.ReadPermalock r s) = unless (permaReadCode (c .layout) s) (shows c (c .layout .perma .at + s .pointer) (s .count))
 effectOf c (order.Permalock r s p) =
     let o = c .layout .perma .at + s .pointer in

@@ -33,7 +33,7 @@ use Rattle.states.specs.declared.Half.the-variants as half
 use Rattle.states.specs.declared.State.{State}
 use Rattle.plans.specs.declared.Plan.{Plan}
 use Rattle.plans.specs.declared.Plan.the-variants as plan
-use Rattle.plans.specs.Effects.{Effect, kill, access, placeOf}
+use Rattle.plans.specs.Effects.{Effect, halfKill, halfAccess, placeOf}
 use Rattle.plans.specs.Steps.{Placed, orError, killBy, planOf}
 use Rattle.tag.specs.declared.Live.{Live}
 use Rattle.frames.specs.declared.Command.{Command}
@@ -244,13 +244,13 @@ module _ (l : Live) (y : Layout) (m f : List ℕ) (fresh : ℕ) (room : List ℕ
   code-performs code.Nothing p x h = h
   code-performs (code.Error e) p x h = refl
 
-  kill-performs : (h : ℕ) (a : Half) → perform (orError (killCode y m a) (killBy y (l .state) h a)) ≡ (let x = kill (sceneOf l y m f fresh) h a in ends (x .code) x)
+  kill-performs : (h : ℕ) (a : Half) → perform (orError (killCode y m a) (killBy y (l .state) h a)) ≡ (let x = halfKill (sceneOf l y m f fresh) h a in ends (x .code) x)
   unfolding handle perform ends
-  kill-performs h half.Nothing = code-performs (killCode y m half.Nothing) _ (kill (sceneOf l y m f fresh) h half.Nothing) refl
+  kill-performs h half.Nothing = code-performs (killCode y m half.Nothing) _ (halfKill (sceneOf l y m f fresh) h half.Nothing) refl
   kill-performs h (half.Access up) = refl
   kill-performs h (half.Kill up) = refl
 
-  access-performs : (h : ℕ) (a : Half) → perform (plan.Number (accessed (l .state) h a) handle) ≡ (let x = access (sceneOf l y m f fresh) h a in ends (x .code) x)
+  access-performs : (h : ℕ) (a : Half) → perform (plan.Number (accessed (l .state) h a) handle) ≡ (let x = halfAccess (sceneOf l y m f fresh) h a in ends (x .code) x)
   unfolding handle perform ends
   access-performs h half.Nothing = refl
   access-performs h (half.Access up) = refl

@@ -7,15 +7,19 @@ use Rattle.tag.specs.declared.Session.{Session}
 use Rattle.tag.specs.declared.Outcome.{Outcome}
 use Rattle.tag.specs.Session.{offSession, numberOf}
 
--- answer number, session, the reply's length in bits, stores made, the register where it was read, image and room; the last two are [] where there is none
-pub record Result : Type 0 where
+-- answer number, session (or S, which stands for it), the reply's length in bits, stores made, the register where it was read, image and room;
+-- the last two are [] where there is none
+pub record Left (S : Type 0) : Type 0 where
   pub number : ℕ
-  pub session : Session
+  pub session : S
   pub reply : ℕ
   pub stores : ℕ
   pub value : ℕ
   pub image : List ℕ
   pub room : List ℕ
+
+abbrev pub Result : Type 0
+Result = Left Session
 
 -- an answer with its reply's length and the stores made
 abbrev pub gives : ℕ → Session → ℕ → ℕ → List ℕ → List ℕ → Result
