@@ -24,7 +24,7 @@ use Rattle.rights.specs.Rights.{bankOf, pastEnd, noRight, other, pwdBit, permaB
 use Rattle.states.specs.declared.Half.{Half}
 use Rattle.states.specs.declared.Half.the-variants as half
 use Rattle.states.specs.Commands.{linkOf, isSecured, zeroKill}
-use Rattle.plans.specs.Effects.{Scene, kill, access, effectOf}
+use Rattle.plans.specs.Effects.{Scene, halfKill, halfAccess, effectOf}
 use Rattle.demands.specs.Demands.{AnErrorCode}
 use Rattle.demands.specs.Refusals.{Within, Past, TakesPc, AllRight}
 
@@ -220,14 +220,14 @@ effect-among c (order.Read s) = read-among (c .layout) (c .image) (isSecured (c 
 effect-among c (order.Write s w) = write-among (c .layout) (c .image) (isSecured (c .state)) s _
 effect-among c (order.Kill w) = go (linkOf (c .state) .half)
   where
-    go : (p : Half) → Among (kill c w p .code)
+    go : (p : Half) → Among (halfKill c w p .code)
     go half.Nothing = among-if (zeroKill (c .layout) (c .image)) other code.Nothing among-other (inl refl)
     go (half.Access up) = inl refl
     go (half.Kill up) = inl refl
 effect-among c (order.Lock mask action) = lock-among (c .layout) (c .image) mask action
 effect-among c (order.Access w) = go (linkOf (c .state) .half)
   where
-    go : (p : Half) → Among (access c w p .code)
+    go : (p : Half) → Among (halfAccess c w p .code)
     go half.Nothing = inl refl
     go (half.Access up) = inl refl
     go (half.Kill up) = inl refl

@@ -18,7 +18,7 @@ use Rattle.frames.specs.Frames.{heardOf}
 use Rattle.states.specs.declared.Half.{Half}
 use Rattle.states.specs.declared.Half.the-variants as half
 use Rattle.states.specs.Commands.{linkOf, isKilled}
-use Rattle.plans.specs.Effects.{Scene, kill, access, effectOf}
+use Rattle.plans.specs.Effects.{Scene, halfKill, halfAccess, effectOf}
 use Rattle.tag.specs.Table.{Input, input, scene, comes, liveOf}
 use Rattle.tag.specs.Port.{portWrites, writtenWords, portWords}
 use Rattle.demands.specs.Calls.{Call, powerUp, admit, frame, ask, release, register, read, write, Tag, wordsIn}
@@ -42,14 +42,14 @@ rising-order c (order.Read s) = tt
 rising-order c (order.Write s w) = tt
 rising-order c (order.Kill w) = go (linkOf (c .state) .half)
   where
-    go : (p : Half) → Rising (kill c w p .words)
+    go : (p : Half) → Rising (halfKill c w p .words)
     go half.Nothing = tt
     go (half.Access up) = tt
     go (half.Kill up) = tt
 rising-order c (order.Lock mask action) = tt
 rising-order c (order.Access w) = go (linkOf (c .state) .half)
   where
-    go : (p : Half) → Rising (access c w p .words)
+    go : (p : Half) → Rising (halfAccess c w p .words)
     go half.Nothing = tt
     go (half.Access up) = tt
     go (half.Kill up) = tt
