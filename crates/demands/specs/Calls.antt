@@ -42,8 +42,11 @@ abbrev pub Program : Type 0
 Program = Tag → Call → Result
 
 -- its answer to a call with this session and image
+abbrev pub tagOf : Session → List ℕ → Tag
+tagOf s m = record { session = s; image = m }
+
 abbrev pub asked : Program → Session → List ℕ → Call → Result
-asked A s m c = A (record { session = s; image = m }) c
+asked A s m c = A (tagOf s m) c
 
 -- what each operation's promise has on its right side: the tag's own answers
 abbrev pub answerOf : Program
