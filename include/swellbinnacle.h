@@ -57,10 +57,10 @@ struct tag_session {
 /* What a call hands back. Padding is not set: compare fields, not bytes. */
 struct tag_outcome {
     uint8_t answer;             /* 0 to 13 */
-    uint8_t value;              /* tag_register: the register, 0 to 3; else 0 */
     struct tag_session session; /* the session from now on */
     size_t reply;               /* the reply's bits in the room, the first bit highest; 0: no reply */
     size_t stores;              /* the word stores made */
+    size_t value;               /* tag_register: the register, 0 to 3; else 0 */
 };
 
 /* A section: offset in the image and count, both in words of 16 bits. */
@@ -126,10 +126,10 @@ _Static_assert(offsetof(struct tag_session, unwritten) == 2 && offsetof(struct t
 _Static_assert(offsetof(struct tag_session, covered) == 4 && offsetof(struct tag_session, half) == 5, "covered, half");
 _Static_assert(offsetof(struct tag_session, number) == 6 && offsetof(struct tag_session, cover) == 8, "number, cover");
 _Static_assert(offsetof(struct tag_session, upper) == 10, "upper");
-_Static_assert(sizeof(struct tag_outcome) == 32 && _Alignof(struct tag_outcome) == 8, "tag_outcome");
-_Static_assert(offsetof(struct tag_outcome, answer) == 0 && offsetof(struct tag_outcome, value) == 1, "answer, value");
-_Static_assert(offsetof(struct tag_outcome, session) == 2, "session");
+_Static_assert(sizeof(struct tag_outcome) == 40 && _Alignof(struct tag_outcome) == 8, "tag_outcome");
+_Static_assert(offsetof(struct tag_outcome, answer) == 0 && offsetof(struct tag_outcome, session) == 2, "answer, session");
 _Static_assert(offsetof(struct tag_outcome, reply) == 16 && offsetof(struct tag_outcome, stores) == 24, "reply, stores");
+_Static_assert(offsetof(struct tag_outcome, value) == 32, "value");
 _Static_assert(sizeof(struct tag_place) == 4 && offsetof(struct tag_place, at) == 0 && offsetof(struct tag_place, words) == 2, "tag_place");
 _Static_assert(sizeof(struct tag_sheet) == 32 && _Alignof(struct tag_sheet) == 2, "tag_sheet");
 _Static_assert(offsetof(struct tag_sheet, answer) == 0 && offsetof(struct tag_sheet, block) == 2, "answer, block");

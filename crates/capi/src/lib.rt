@@ -25,14 +25,14 @@ pub struct Record {
     pub upper: u16,
 }
 
-// An outcome: the answer's number, the register where it was read, the new session, the reply's length in bits, and the stores made.
+// An outcome: the answer's number, the new session, the reply's length in bits, the stores made, and the register where it was read.
 #[repr(C)]
 pub struct Told {
     pub answer: u8,
-    pub value: u8,
     pub session: Record,
     pub reply: usize,
     pub stores: usize,
+    pub value: usize,
 }
 
 // A section: its offset in the image and its count, both in words.

@@ -309,10 +309,10 @@ pub fn outcome(o: tag::Outcome) -> Told
     let session = o.session;
     Told {
         answer: tag::number(answer),
-        value: o.value,
         session: record_of(session),
         reply: o.reply,
         stores: o.stores,
+        value: o.value,
     }
 }
 
@@ -362,9 +362,9 @@ pub fn told(answer: u8, session: Record, reply: usize) -> Told
 {
     Told {
         answer: answer,
-        value: 0,
         session: session,
         reply: reply,
         stores: 0,
+        value: 0,
     }
 }

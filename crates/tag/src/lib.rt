@@ -62,7 +62,7 @@ pub struct Outcome {
     pub session: Session,
     pub reply: usize,
     pub stores: usize,
-    pub value: u8,
+    pub value: usize,
 }
 
 // An answer's number in the table (RULES 5).

@@ -91,10 +91,10 @@ fn bit(b: bool) -> u8
 }
 
 // The register as a number.
-fn number_in(register: Register) -> u8
+fn number_in(register: Register) -> usize
     ensures { λ r. ⌜ r ≡ numberIn register ⌝ }
 {
-    2 * bit(register.unwritten) + bit(register.killed)
+    2 * bit(register.unwritten) as usize + bit(register.killed) as usize
 }
 
 // No word, more than 255, or words past USER's end.
