@@ -77,6 +77,18 @@ module _ (y : Layout) (m : List ℕ) (g : Good y m) where
   unfolding stores made
   power-done s l = power-ends s ∙ ap (λ (t : Bool). cond t (lost s) made) (le-ltb s (length stores) l)
 
+  pub power-fails : (s : ℕ) → s < length (powerStores (layoutOf m) m) → powerUpOf m s .number ≡ 11
+  unfolding stores lost made
+  power-fails s l = ap (λ (r : Result). r .number) (power-ends s) ∙ ap (λ (t : Bool). cond t (lost s) made .number) (lt-ltb s (length stores) l)
+
+  pub power-made : (s : ℕ) → powerUpOf m s .number ≡ 0 → powerUpOf m s .stores ≡ length (powerStores (layoutOf m) m)
+  unfolding stores lost made
+  power-made s e = go (decLt s (length stores))
+    where
+      go : Dec (s < length stores) → powerUpOf m s .stores ≡ length stores
+      go (yes l) = absurd (let z : _≡_ {A = ℕ} 11 0 = sym (power-fails s l) ∙ e in omega arith)
+      go (no l) = ap (λ (r : Result). r .stores) (power-ends s) ∙ ap (λ (t : Bool). cond t (lost s) made .stores) (le-ltb s (length stores) (omega arith))
+
   -- the pending words, at most 255, the count 0 and the CRC-16
   pub power-needs : length (powerStores y m) ≤ 257
   power-needs = go (decLt 0 (countIn y m))

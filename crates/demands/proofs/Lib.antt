@@ -8,4 +8,5 @@ pub mod Whole
 pub mod Codes
 pub mod Tables
 pub mod Commands
+pub mod Short
 pub mod Refusals

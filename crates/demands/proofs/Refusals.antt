@@ -53,26 +53,11 @@ use Rattle.tag.specs.Power.{started, powerUpOf}
 use Rattle.tag.specs.Port.{badCount, badData, refusals, registerTo, withKilled, withUnwritten, someUnwritten, readBits, portWords, askOf, releaseOf, registerOf, readOf, writeOf}
 use Rattle.demands.specs.Calls.{Call, asked, powerUp, ask, read, write, answerOf, Idle}
 use Rattle.demands.specs.Commands.{Air, hears, linked, link, Says}
-use Rattle.demands.proofs.Rows.{Rows}
+use Rattle.demands.proofs.Rows.{Rows, Reaches, rowAt, first-at}
 use Rattle.demands.proofs.Codes.{or-right, and-false}
+use Rattle.demands.proofs.Short.{short as too-short}
 use Rattle.demands.proofs.Codes as codes
 use Rattle.demands.specs.Refusals.{stays, drops, errs, Covered, Needs, Other, Brings, Wrong, Dropped, Errors, Locks, Alone, BadCount, Transfer, Port, Refusals}
-
--- row k holds, and none before it
-abbrev Reaches : ℕ → Rows → Type 0
-Reaches k [] = ⊥
-Reaches zero (r ∷ rs) = r .1 ≡ true
-Reaches (suc k) (r ∷ rs) = (r .1 ≡ false) × Reaches k rs
-
-abbrev rowAt : ℕ → Rows → Result → Result
-rowAt k [] last = last
-rowAt zero (r ∷ rs) last = r .0
-rowAt (suc k) (r ∷ rs) last = rowAt k rs last
-
-first-at : (k : ℕ) (rs : Rows) (last : Result) → Reaches k rs → first rs last ≡ rowAt k rs last
-first-at k [] last h = absurd h
-first-at zero (r ∷ rs) last h = ap (λ (b : Bool). cond b (r .0) (first rs last)) h
-first-at (suc k) (r ∷ rs) last h = ap (λ (b : Bool). cond b (r .0) (first rs last)) (h .0) ∙ first-at k rs last (h .1)
 
 -- an image that is not good: its number's row, whatever comes after
 image-first : (m : List ℕ) (leaving : ℕ → Result) (more : Rows) (last : Result) (n : ℕ) → checkOf m ≡ refused n → first (imageRows leaving m ++ more) last ≡ leaving n
@@ -679,4 +664,5 @@ when-refused =
       reads = λ m at n room. transfer-lines m room (read at n room) (badCount (layoutOf m) at n) (read-listed m at n room);
       writes = λ m at d u. transfer-lines m [] (write at d u) (badData (layoutOf m) at d) (write-listed m at d u);
       port = λ y m st r idle. subst (λ (z : Layout). Port answerOf z m st r) (sym (own-layout y m idle)) (port-lines m st r (own-idle y m idle));
+      short = too-short;
     }

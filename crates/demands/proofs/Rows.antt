@@ -1,5 +1,5 @@
 -- Which row of an answer table is given, and what a call stores where none of the refusals is. Assumes nothing.
-use Prim.Native.Nat.{ℕ, _+_, _/_, _%_, _≤_, _<_, min}
+use Prim.Native.Nat.{ℕ, zero, suc, _+_, _/_, _%_, _≤_, _<_, min}
 use mathlib.Core.Path.{_≡_, refl, sym, ap, ap₂, _∙_, subst}
 use mathlib.Core.Logic.{_⊎_, inl, inr}
 use mathlib.Core.Bool.{true≢false, Bool, true, false, cond, not, _&&_, _||_}
@@ -71,6 +71,22 @@ first-each P (r ∷ rs) last h p = go (r .1) refl (first-each P rs last (h .1) p
     go true e q = h .0 e
     go false e q = q
 
+-- row k holds, and none before it
+abbrev pub Reaches : ℕ → Rows → Type 0
+Reaches k [] = ⊥
+Reaches zero (r ∷ rs) = r .1 ≡ true
+Reaches (suc k) (r ∷ rs) = (r .1 ≡ false) × Reaches k rs
+
+abbrev pub rowAt : ℕ → Rows → Result → Result
+rowAt k [] last = last
+rowAt zero (r ∷ rs) last = r .0
+rowAt (suc k) (r ∷ rs) last = rowAt k rs last
+
+pub first-at : (k : ℕ) (rs : Rows) (last : Result) → Reaches k rs → first rs last ≡ rowAt k rs last
+first-at k [] last h = absurd h
+first-at zero (r ∷ rs) last h = ap (λ (b : Bool). cond b (r .0) (first rs last)) h
+first-at (suc k) (r ∷ rs) last h = ap (λ (b : Bool). cond b (r .0) (first rs last)) (h .0) ∙ first-at k rs last (h .1)
+
 -- refused, and nothing stored
 abbrev pub Refused : List ℕ → Result → Type 0
 Refused m r = (r .image ≡ m) × (0 < r .number)
@@ -82,6 +98,7 @@ pub record Acting (y : Layout) (t : Tag) (c : Storing) (ws : List Store) : Type 
   pub image : (s : ℕ) → answerOf t (told c s) .image ≡ after (t .image) (take s (changeStores (y .work .at) ws))
   pub stores : (s : ℕ) → answerOf t (told c s) .stores ≡ min s (length (changeStores (y .work .at) ws))
   pub whole : (s : ℕ) → answerOf t (told c s) .number ≡ 0 → length (changeStores (y .work .at) ws) ≤ s
+  pub fails : (s : ℕ) → s < length (changeStores (y .work .at) ws) → answerOf t (told c s) .number ≡ 11
 
 -- a cut or a whole call leaves the first s stores
 ends-image : (s : ℕ) (m : List ℕ) (xs : List Store) (a b : Result) → a .image ≡ after m (take s xs) → b .image ≡ after m xs
@@ -114,7 +131,7 @@ no-error (code.Error e) b p q =
     absurd (true≢false (sym q ∙ p))
 
 -- two functions of what was heard, case by case
-heard-same : {A : Type 0} (f g : Heard → A) → f heard.Malformed ≡ g heard.Malformed → f heard.Nak ≡ g heard.Nak → ((c : Command) → f (heard.Said c) ≡ g (heard.Said c))
+pub heard-same : {A : Type 0} (f g : Heard → A) → f heard.Malformed ≡ g heard.Malformed → f heard.Nak ≡ g heard.Nak → ((c : Command) → f (heard.Said c) ≡ g (heard.Said c))
     → (x : Heard) → f x ≡ g x
 heard-same f g p q r heard.Malformed = p
 heard-same f g p q r heard.Nak = q
@@ -232,6 +249,10 @@ module _ (v : Session) (m f : List ℕ) (bits fresh : ℕ) (room : List ℕ) (g 
             subst (λ (x : Effect). length (changeStores (layoutOf m .work .at) (x .words)) ≤ s) (same-effect s 0)
             (ends-whole s (storesOf (with-power s)) (cut (with-power s)) _ refl
             (sym (ap (λ (r : Result). r .number) (split s ∙ none-first (front s) (ends s) (same-front a s h))) ∙ e));
+        fails = λ s l.
+            ap (λ (r : Result). r .number) (split s ∙ none-first (front s) (ends s) (same-front a s h))
+            ∙ ap (λ (b : Bool). cond b (cut (with-power s)) (replied (with-power s) 0 (effect (with-power s) .state) (storesOf (with-power s))) .number)
+            (lt-ltb s _ (subst (λ (x : Effect). s < length (changeStores (layoutOf m .work .at) (x .words))) (same-effect 0 s) l));
       }
 
   frame-acts : (s : ℕ) → Refused m (frameOf (with-power s)) ⊎ Acting (layoutOf m) (record { session = v; image = m }) radio words
@@ -302,6 +323,9 @@ module _ (v : Session) (m : List ℕ) (at : ℕ) (d : List ℕ) (g : Good (layou
         whole = λ s e.
             ends-whole s stores (lost s) made refl
             (sym (ap (λ (r : Result). r .number) (write-split s ∙ none-first before (cond (ltb s (length stores)) (lost s) made) h)) ∙ e);
+        fails = λ s l.
+            ap (λ (r : Result). r .number) (write-split s ∙ none-first before (cond (ltb s (length stores)) (lost s) made) h)
+            ∙ ap (λ (b : Bool). cond b (lost s) made .number) (lt-ltb s (length stores) l);
       }
 
   write-acts : (s : ℕ) → Refused m (writeOf v m at d s) ⊎ Acting (layoutOf m) (record { session = v; image = m }) (byPort at d) port-words

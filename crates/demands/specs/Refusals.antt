@@ -33,7 +33,8 @@ use Rattle.tag.specs.declared.Session.{Session}
 use Rattle.tag.specs.Session.{offSession, on}
 use Rattle.tag.specs.Result.{Result, leaves}
 use Rattle.states.specs.Commands.{accessWord, killWord}
-use Rattle.demands.specs.Calls.{Call, powerUp, admit, ask, release, register, read, write, Program, asked, Idle}
+use Rattle.demands.specs.Calls.{Call, powerUp, admit, ask, release, register, read, write, Tag, Program, asked, Idle}
+use Rattle.demands.specs.Demands.{Storing, told}
 use Rattle.demands.specs.Commands.{Air, hears, linked, link, Says}
 
 -- everything as before
@@ -229,6 +230,19 @@ pub record Port (A : Program) (y : Layout) (m : List ℕ) (st : State) (r : Regi
   pub write-count : (at n : ℕ) (d : List ℕ) (s : ℕ) → length d ≡ 2 * n → BadCount y at n ⊎ (pairsIn y < n)
       → asked A (on st true r) m (write at d s) ≡ leaves 13 (on st true r) m []
 
+-- 4: a frame that is answered with a reply, 0 or 10, where the room is another, in a room that the reply doesn't fit; 11: a frame or an SPI write that is done
+-- with `enough`, and a power-up, with power for fewer stores than it makes
+abbrev pub inRoom : List ℕ → Air → Air
+inRoom room a = record { image = a .image; frame = a .frame; bits = a .bits; fresh = a .fresh; room = room; power = a .power }
+
+pub record Short (A : Program) : Type 0 where
+  pub room : (a : Air) (s : Session) (other : List ℕ) → let r = hears A (inRoom other a) s in
+      (r .number ≡ 0) ⊎ (r .number ≡ 10) → 8 * length (a .room) < r .reply → hears A a s ≡ stays 4 a s
+  pub power : (y : Layout) (t : Tag) (c : Storing) (s enough : ℕ) → checkOf (t .image) ≡ good y → let r = A t (told c enough) in
+      r .number ≡ 0 → s < r .stores → A t (told c s) .number ≡ 11
+  pub start : (y : Layout) (m : List ℕ) (v : Session) (s enough : ℕ) → checkOf m ≡ good y → let r = asked A v m (powerUp enough) in
+      r .number ≡ 0 → s < r .stores → asked A v m (powerUp s) .number ≡ 11
+
 pub record Refusals (A : Program) : Type 0 where
   pub unready : (a : Air) → Unready A a
   pub unheard : (y : Layout) (a : Air) (st : State) (r : Register) → Idle y (a .image) → Unheard A a st r
@@ -241,3 +255,4 @@ pub record Refusals (A : Program) : Type 0 where
   pub reads : (m : List ℕ) (at n : ℕ) (room : List ℕ) → Transfer A m (read at n room) room
   pub writes : (m : List ℕ) (at : ℕ) (d : List ℕ) (s : ℕ) → Transfer A m (write at d s) []
   pub port : (y : Layout) (m : List ℕ) (st : State) (r : Register) → Idle y m → Port A y m st r
+  pub short : Short A

@@ -1,0 +1,174 @@
+-- When the room is too small or the power too short: the same frame in two rooms comes to the same row but for the reply that doesn't fit. Assumes nothing.
+use Prim.Native.Nat.{ℕ, _+_, _*_, _/_, _≤_, _<_}
+use mathlib.Core.Path.{_≡_, refl, sym, ap, ap₂, _∙_, subst}
+use mathlib.Core.Logic.{_⊎_, inl, inr}
+use mathlib.Core.Bool.{Bool, true, false, cond, not, _&&_}
+use mathlib.Core.List.{List, []}
+use native.Mathlib.Omega.{arith}
+use native.Mathlib.Decide.{decLt}
+use lib.Dec.{ltb}
+use lib.ListN.{length, take, drop}
+use borrow.Author.Tests.{lt-ltb, le-ltb}
+use Rattle.bits.specs.Words.{Store}
+use Rattle.bits.specs.First.{first}
+use Rattle.image.specs.declared.Layout.{Layout}
+use Rattle.image.specs.Layout.{layoutOf}
+use Rattle.image.specs.Check.{checkOf, good}
+use Rattle.image.specs.Rules.{Good}
+use Rattle.image.proofs.Answers.{check-good}
+use Rattle.frames.specs.declared.Heard.{Heard}
+use Rattle.frames.specs.declared.Heard.the-variants as heard
+use Rattle.frames.specs.Frames.{heardOf}
+use Rattle.replies.specs.declared.Reply.{Reply}
+use Rattle.replies.specs.Replies.{replyLength, replyBytes}
+use Rattle.stores.specs.Stores.{changeStores, powerStores}
+use Rattle.states.specs.Commands.{linkOf, used}
+use Rattle.plans.specs.Effects.{Effect}
+use Rattle.tag.specs.declared.Session.{Session}
+use Rattle.tag.specs.Result.{Result}
+use Rattle.tag.specs.Power.{powerUpOf}
+use Rattle.tag.specs.Table.{Input, input, liveOf, broken, comes, effect, isError, replyOr, replyOf, fits, storesOf, everything, cut, replied, rows, frameOf}
+use Rattle.demands.specs.Calls.{Tag, answerOf}
+use Rattle.demands.specs.Demands.{Storing, told}
+use Rattle.demands.specs.Commands.{Air, hears}
+use Rattle.demands.specs.Refusals.{stays, inRoom, Short}
+use Rattle.demands.proofs.Codes.{and-false}
+use Rattle.demands.proofs.Rows.{Rows, None, Each, first-or, none-first, first-at, heard-same, Refused, Acting, wordsOf, acts}
+use Rattle.demands.proofs.Cuts.{power-fails, power-made}
+
+-- answered with a reply
+abbrev Replies : Result → Type 0
+Replies r = (r .number ≡ 0) ⊎ (r .number ≡ 10)
+
+never : (n : ℕ) → (n ≡ 0 → ⊥) → (n ≡ 10 → ⊥) → (n ≡ 0) ⊎ (n ≡ 10) → ⊥
+never n a b (inl e) = a e
+never n a b (inr e) = b e
+
+module _ (v : Session) (m f : List ℕ) (bits fresh : ℕ) (power : ℕ) where
+  at : List ℕ → Input
+  at room = input v m f bits fresh room power
+
+  -- rows 1 to 12, and what follows them
+  before : List ℕ → Rows
+  before room = take 9 (rows (at room))
+
+  done : List ℕ → Result
+  done room = replied (at room) 0 (effect (at room) .state) (storesOf (at room))
+
+  behind : List ℕ → Result
+  behind room = first (drop 9 (rows (at room))) (done room)
+
+  split : (room : List ℕ) → frameOf (at room) ≡ first (before room) (behind room)
+  unfolding frameOf at before behind done
+  split room = refl
+
+  silent : (room : List ℕ) → Each (λ r. Replies r → ⊥) (before room)
+  unfolding at before
+  silent room = (
+    λ e. never 1 (omega arith) (omega arith),
+    (
+      λ e. never 2 (omega arith) (omega arith),
+      (
+        λ e. never 3 (omega arith) (omega arith),
+        (
+          λ e. never 5 (omega arith) (omega arith),
+          (
+            λ e. never 6 (omega arith) (omega arith),
+            (
+              λ e. never 7 (omega arith) (omega arith),
+              (λ e. never 8 (omega arith) (omega arith), (λ e. never 9 (omega arith) (omega arith), (λ e. never 12 (omega arith) (omega arith), tt))),
+            ),
+          ),
+        ),
+      ),
+    ),
+  )
+
+  -- what a reply behind them is
+  reply-behind : (room : List ℕ) → Replies (behind room) → behind room .reply ≡ replyLength (replyOf (at room))
+  unfolding at behind done
+  reply-behind room h =
+      go (isError (effect (at room) .code) && fits (replyOf (at room)) room) (fits (replyOf (at room)) room) (ltb power (length (storesOf (at room)))) h
+    where
+      rest : Bool → Bool → Bool → Result
+      rest a b c =
+          cond a (replied (at room) 10 (used (liveOf (v .power) .state)) [])
+          (cond (not b) (everything (at room) 4) (cond c (cut (at room)) (done room)))
+
+      go : (a b c : Bool) → Replies (rest a b c) → rest a b c .reply ≡ replyLength (replyOf (at room))
+      go true b c h = refl
+      go false true true h = absurd (never 11 (omega arith) (omega arith) h)
+      go false true false h = refl
+      go false false c h = absurd (never 4 (omega arith) (omega arith) h)
+
+  -- the room matters to nothing before, and not to the reply
+  module _ (a b : List ℕ) where
+    same-broken : (x : Heard) → broken (at a) x ≡ broken (at b) x
+    unfolding at
+    same-broken = heard-same (broken (at a)) (broken (at b)) refl refl (λ c. refl)
+
+    same-comes : (x : Heard) → comes (at a) x ≡ comes (at b) x
+    unfolding at
+    same-comes = heard-same (comes (at a)) (comes (at b)) refl refl (λ c. refl)
+
+    same-reply : replyOf (at a) ≡ replyOf (at b)
+    unfolding at
+    same-reply = ap (λ (x : Effect). replyOr (x .code) (linkOf (liveOf (v .power) .state) .handle) (x .reply)) (same-comes (heardOf f bits))
+
+    tight : Replies (frameOf (at b)) → 8 * length a < frameOf (at b) .reply → frameOf (at a) ≡ everything (at a) 4
+    unfolding frameOf at before behind done
+    tight h l = go (first-or (λ r. Replies r → ⊥) (before b) (behind b) (silent b))
+      where
+        go : (Replies (first (before b) (behind b)) → ⊥) ⊎ None (before b) → frameOf (at a) ≡ everything (at a) 4
+        go (inl n) = absurd (n (subst Replies (split b) h))
+        go (inr n) =
+            let is : frameOf (at b) ≡ behind b = split b ∙ none-first (before b) (behind b) n in
+            let long : 8 * length a < replyLength (replyOf (at b)) = rw (ap (λ (r : Result). r .reply) is ∙ reply-behind b (subst Replies is h)) at l in
+            let small : length a < replyBytes (replyOf (at a)) = subst (λ (r : Reply). length a < replyBytes r) (sym same-reply) (omega (arith, long)) in
+            let no : fits (replyOf (at a)) a ≡ false = ap not (lt-ltb (length a) (replyBytes (replyOf (at a))) small) in
+            first-at 10 (rows (at a)) (done a) (
+              n .0,
+              (
+                n .1 .0,
+                (
+                  n .1 .1 .0,
+                  (
+                    n .1 .1 .1 .0,
+                    (
+                      n .1 .1 .1 .1 .0,
+                      (
+                        n .1 .1 .1 .1 .1 .0,
+                        (
+                          n .1 .1 .1 .1 .1 .1 .0,
+                          (
+                            n .1 .1 .1 .1 .1 .1 .1 .0,
+                            (
+                              same-broken (heardOf f bits) ∙ n .1 .1 .1 .1 .1 .1 .1 .1 .0,
+                              (ap (λ (t : Bool). isError (effect (at a) .code) && t) no ∙ and-false (isError (effect (at a) .code)), ap not no),
+                            ),
+                          ),
+                        ),
+                      ),
+                    ),
+                  ),
+                ),
+              ),
+            )
+
+pub short : Short answerOf
+unfolding at
+short =
+    record {
+      room = λ a s other h l. tight s (a .image) (a .frame) (a .bits) (a .fresh) (a .power) (a .room) other h l;
+      power = λ y t c s enough e z l. power y t c s enough e z l;
+      start = λ y m v s enough e z l.
+          (let g = check-good m y e in power-fails y m g s (subst (λ (k : ℕ). s < k) (power-made y m g enough z) l));
+    }
+  where
+    power : (y : Layout) (t : Tag) (c : Storing) (s enough : ℕ) → checkOf (t .image) ≡ good y → answerOf t (told c enough) .number ≡ 0
+        → s < answerOf t (told c enough) .stores → answerOf t (told c s) .number ≡ 11
+    power y t c s enough e z l = go (acts y t c enough (check-good (t .image) y e))
+      where
+        go : Refused (t .image) (answerOf t (told c enough)) ⊎ Acting y t c (wordsOf t c) → answerOf t (told c s) .number ≡ 11
+        go (inl r) = absurd (omega (arith, z, r .1))
+        go (inr a) = a .fails s (omega (arith, l, a .stores enough))
