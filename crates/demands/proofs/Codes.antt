@@ -26,7 +26,7 @@ use Rattle.states.specs.declared.Half.the-variants as half
 use Rattle.states.specs.Commands.{linkOf, isSecured, zeroKill}
 use Rattle.plans.specs.Effects.{Scene, halfKill, halfAccess, effectOf}
 use Rattle.demands.specs.Demands.{AnErrorCode}
-use Rattle.demands.specs.Refusals.{Within, Past, TakesPc, AllRight}
+use Rattle.demands.specs.Facts.{Within, Past, TakesPc, AllRight, Readable, Writable, Lockable, PermaLockable}
 
 pub or-right : (a b : Bool) → b ≡ true → a || b ≡ true
 or-right true b e = refl
@@ -167,6 +167,71 @@ module _ (y : Layout) (m : List ℕ) (f : List ℕ) (p n at : ℕ) where
           go : (t : Bool) → eqb (bitAt f (at + k)) 0 ≡ t → t || ltb (16 * p + k) (blocksIn y) ≡ true
           go true z = refl
           go false z = lt-ltb (16 * p + k) (blocksIn y) (g k i (eqb-false (bitAt f (at + k)) 0 z))
+
+-- and no code where none is due
+pub read-clear : (y : Layout) (m : List ℕ) (q : Bool) (b p n : ℕ) → Readable y m q b p n → readCode y m q (span b p n) ≡ code.Nothing
+unfolding readCode
+read-clear y m q b p n r =
+    rw (within-beyond (bankOf y b) b p n (r .within), every-all (λ i. mayRead y m q b (p + i)) (spanWords (bankOf y b) (span b p n)) (λ j l. r .right j (inside (eqb n 0) refl l)))
+  where
+    inside : {j : ℕ} (t : Bool) → eqb n 0 ≡ t → j < cond (eqb n 0) (bankOf y b .words - p) n → (j < n) ⊎ ((n ≡ 0) × (p + j < bankOf y b .words))
+    inside {j} true e l = let k : j < bankOf y b .words - p = rw e at l in inr (eqb-true n 0 e, omega (arith, k))
+    inside {j} false e l = inl (rw e at l)
+
+pub write-clear : (y : Layout) (m : List ℕ) (q : Bool) (b p n pc : ℕ) → Writable y m q b p n pc → writeCode y m q (span b p n) pc ≡ code.Nothing
+unfolding writeCode
+write-clear y m q b p n pc w =
+    rw (within-beyond (bankOf y b) b p n (w .within), all-right y m q b p n pc (w .right), good-pc y m q b p n pc (w .length), le-ltb (pairsIn y) n (w .few))
+
+pub lock-clear : (y : Layout) (m : List ℕ) (mask action : ℕ) → Lockable y m mask action → lockCode y m mask action ≡ code.Nothing
+unfolding lockCode
+lock-clear y m mask action l =
+    ap₂ (λ (t u : Bool). cond (not t) noRight (cond u noRight code.Nothing))
+    (every-all (λ k. not (pairBreaks (lockWord y m) new k)) 5 (λ k i. kept k (eqb (permaBit (lockWord y m) k) 1) refl i))
+    (user (eqb (mask % 4) 0) (eqb (pwdBit new 4) 0) (eqb (permaBit new 4) 1) refl refl refl)
+  where
+    new : ℕ
+    new = lockedTo (lockWord y m) mask action
+
+    kept : (k : ℕ) (t : Bool) → eqb (permaBit (lockWord y m) k) 1 ≡ t → k < 5 → not (pairBreaks (lockWord y m) new k) ≡ true
+    kept k true e i =
+        let p = l .pairs k i (eqb-true _ _ e) in
+        ap₂ (λ (t u : Bool). not (t && not (u && eqb (pwdBit new k) (pwdBit (lockWord y m) k)))) e (eq-eqb (permaBit new k) 1 (p .0))
+        ∙ ap (λ (u : Bool). not (not u)) (eq-eqb (pwdBit new k) (pwdBit (lockWord y m) k) (p .1))
+    kept k false e i = ap (λ (t : Bool). not (t && not (eqb (permaBit new k) 1 && eqb (pwdBit new k) (pwdBit (lockWord y m) k)))) e
+
+    user : (t u v : Bool) → eqb (mask % 4) 0 ≡ t → eqb (pwdBit new 4) 0 ≡ u → eqb (permaBit new 4) 1 ≡ v
+        → not (eqb (mask % 4) 0) && userOpenForGood new && somePermalock y m ≡ false
+    user t u v a b c = ap₂ (λ (x z : Bool). not x && (z && eqb (permaBit new 4) 1) && somePermalock y m) a b ∙ ap (λ (x : Bool). not t && (u && x) && somePermalock y m) c ∙ go t u v a b c
+      where
+        go : (t u v : Bool) → eqb (mask % 4) 0 ≡ t → eqb (pwdBit new 4) 0 ≡ u → eqb (permaBit new 4) 1 ≡ v → not t && (u && v) && somePermalock y m ≡ false
+        go true u v a b c = refl
+        go false true true a b c =
+            ap not (every-all (λ i. eqb (permalock y m i) 0) (blocksIn y)
+            (λ i k. eq-eqb (permalock y m i) 0 (l .user (eqb-false (mask % 4) 0 a) (eqb-true (pwdBit new 4) 0 b) (eqb-true (permaBit new 4) 1 c) i k)))
+        go false true false a b c = refl
+        go false false v a b c = refl
+
+pub perma-read-clear : (y : Layout) (p n : ℕ) → p + n ≤ y .perma .words → permaReadCode y (span 3 p n) ≡ code.Nothing
+unfolding permaReadCode
+perma-read-clear y p n l = rw (le-ltb (y .perma .words) (p + n) l)
+
+pub perma-clear : (y : Layout) (m : List ℕ) (p n : ℕ) (f : List ℕ) (at : ℕ) → PermaLockable y m p n f at → permaCode y m (span 3 p n) f at ≡ code.Nothing
+unfolding permaCode
+perma-clear y m p n f at l =
+    rw (le-ltb (y .perma .words) (p + n) (l .within), every-all (λ k. eqb (bitAt f (at + k)) 0 || ltb (16 * p + k) (blocksIn y)) (16 * n) each, not-01 (eqb (pwdBit (lockWord y m) 4) 0) (eqb (permaBit (lockWord y m) 4) 1) refl refl)
+  where
+    each : (k : ℕ) → k < 16 * n → eqb (bitAt f (at + k)) 0 || ltb (16 * p + k) (blocksIn y) ≡ true
+    each k i = go (eqb (bitAt f (at + k)) 0) refl
+      where
+        go : (t : Bool) → eqb (bitAt f (at + k)) 0 ≡ t → t || ltb (16 * p + k) (blocksIn y) ≡ true
+        go true z = refl
+        go false z = lt-ltb (16 * p + k) (blocksIn y) (l .blocks k i (eqb-false (bitAt f (at + k)) 0 z))
+
+    not-01 : (u v : Bool) → eqb (pwdBit (lockWord y m) 4) 0 ≡ u → eqb (permaBit (lockWord y m) 4) 1 ≡ v → userOpenForGood (lockWord y m) ≡ false
+    not-01 true true a b = absurd (l .user (eqb-true _ _ a) (eqb-true _ _ b))
+    not-01 true false a b = ap₂ (λ (x z : Bool). x && z) a b
+    not-01 false v a b = ap (λ (x : Bool). x && eqb (permaBit (lockWord y m) 4) 1) a
 
 -- no code, or one of the three
 abbrev pub Among : Code → Type 0

@@ -1,5 +1,6 @@
 pub mod Calls
 pub mod Demands
+pub mod Facts
 pub mod Commands
 pub mod Worked
 pub mod Ports

@@ -35,6 +35,7 @@ use Rattle.tag.specs.Result.{Result, leaves}
 use Rattle.states.specs.Commands.{accessWord, killWord}
 use Rattle.demands.specs.Calls.{Call, powerUp, admit, ask, release, register, read, write, Tag, Program, asked, Idle}
 use Rattle.demands.specs.Demands.{Storing, told}
+use Rattle.demands.specs.Facts.{Within, Past, TakesPc, AllRight}
 use Rattle.demands.specs.Commands.{Air, hears, linked, link, Says}
 
 -- everything as before
@@ -80,21 +81,6 @@ abbrev pub Other : Half → Order → Type 0
 Other half.Nothing o = ⊥
 Other (half.Access up) o = (o ≢ order.ReqRn) × ((h : ℕ) → o ≢ order.Access h)
 Other (half.Kill up) o = (o ≢ order.ReqRn) × ((h : ℕ) → o ≢ order.Kill h)
-
--- 3.20: n words of a bank of so many, from word p on, end within it
-abbrev pub Within : ℕ → ℕ → ℕ → Type 0
-Within words p n = (p < words) × (p + n ≤ words)
-
-abbrev pub Past : ℕ → ℕ → ℕ → Type 0
-Past words p n = (words ≤ p) ⊎ (words < p + n)
-
--- the PC is among n words of bank b from p on
-abbrev pub TakesPc : ℕ → ℕ → ℕ → Type 0
-TakesPc b p n = (b ≡ 1) × (p ≤ 1) × (1 < p + n)
-
--- every one of n words from p on may be written
-abbrev pub AllRight : Layout → List ℕ → Bool → ℕ → ℕ → ℕ → Type 0
-AllRight y m q b p n = (j : ℕ) → j < n → mayWrite y m q b (p + j) ≡ true
 
 -- what a Write, BlockWrite or BlockErase brings for EPC word 1
 abbrev pub Brings : Air → Cover → Order → ℕ → ℕ → ℕ → ℕ → Type 0

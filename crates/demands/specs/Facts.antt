@@ -1,0 +1,51 @@
+-- The rights and codes of the rules as facts (RULES 3.18 to 3.22): what must hold so that no error code applies. Assumes nothing.
+use Prim.Native.Nat.{ℕ, _+_, _*_, _%_, _≤_, _<_}
+use mathlib.Core.Path.{_≡_}
+use mathlib.Core.Logic.{_≢_, _⊎_}
+use mathlib.Core.Bool.{Bool, true}
+use mathlib.Core.List.{List}
+use Rattle.bits.specs.Bits.{bitAt}
+use Rattle.image.specs.declared.Layout.{Layout}
+use Rattle.image.specs.Layout.{blocksIn, pairsIn}
+use Rattle.image.specs.Content.{lockWord, lengthOf, permalock}
+use Rattle.rights.specs.Rights.{bankOf, pwdBit, permaBit, mayRead, mayWrite, lockedTo}
+
+-- 3.20: n words of a bank of so many, from word p on, end within it
+abbrev pub Within : ℕ → ℕ → ℕ → Type 0
+Within words p n = (p < words) × (p + n ≤ words)
+
+abbrev pub Past : ℕ → ℕ → ℕ → Type 0
+Past words p n = (words ≤ p) ⊎ (words < p + n)
+
+-- the PC is among n words of bank b from p on
+abbrev pub TakesPc : ℕ → ℕ → ℕ → Type 0
+TakesPc b p n = (b ≡ 1) × (p ≤ 1) × (1 < p + n)
+
+-- every one of n words from p on may be written
+abbrev pub AllRight : Layout → List ℕ → Bool → ℕ → ℕ → ℕ → Type 0
+AllRight y m q b p n = (j : ℕ) → j < n → mayWrite y m q b (p + j) ≡ true
+
+-- a Read of n words, or to the bank's end where n is 0: within the bank, and each word may be read
+pub record Readable (y : Layout) (m : List ℕ) (q : Bool) (b p n : ℕ) : Type 0 where
+  pub within : Within (bankOf y b .words) p n
+  pub right : (j : ℕ) → (j < n) ⊎ ((n ≡ 0) × (p + j < bankOf y b .words)) → mayRead y m q b (p + j) ≡ true
+
+-- words written: within the bank, each with its right, a PC that fits, and at most W of them
+pub record Writable (y : Layout) (m : List ℕ) (q : Bool) (b p n pc : ℕ) : Type 0 where
+  pub within : Within (bankOf y b .words) p n
+  pub right : AllRight y m q b p n
+  pub length : TakesPc b p n → lengthOf pc + 2 ≤ y .epc .words
+  pub few : n ≤ pairsIn y
+
+-- a Lock: permalocked pairs stay; and where it masks a USER bit it does not leave USER at 01 while a block is permalocked
+pub record Lockable (y : Layout) (m : List ℕ) (mask action : ℕ) : Type 0 where
+  pub pairs : let old = lockWord y m in let new = lockedTo old mask action in
+      (k : ℕ) → k < 5 → permaBit old k ≡ 1 → (permaBit new k ≡ 1) × (pwdBit new k ≡ pwdBit old k)
+  pub user : let new = lockedTo (lockWord y m) mask action in
+      mask % 4 ≢ 0 → pwdBit new 4 ≡ 0 → permaBit new 4 ≡ 1 → (i : ℕ) → i < blocksIn y → permalock y m i ≡ 0
+
+-- BlockPermalock: within PERMA; and where it locks, only blocks that exist, and USER not at 01
+pub record PermaLockable (y : Layout) (m : List ℕ) (p n : ℕ) (f : List ℕ) (at : ℕ) : Type 0 where
+  pub within : p + n ≤ y .perma .words
+  pub blocks : (k : ℕ) → k < 16 * n → bitAt f (at + k) ≢ 0 → 16 * p + k < blocksIn y
+  pub user : pwdBit (lockWord y m) 4 ≡ 0 → permaBit (lockWord y m) 4 ≢ 1
