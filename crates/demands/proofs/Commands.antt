@@ -43,6 +43,7 @@ use Rattle.demands.specs.Calls.{answerOf, Idle}
 use Rattle.demands.specs.Commands.{Air, hears, link, done, Does, Radio, Engine, Demand2}
 use Rattle.demands.proofs.Rows.{Rows, None, none-first}
 use Rattle.demands.proofs.Cuts.{started-so}
+use Rattle.demands.proofs.Codes.{read-clear, write-clear, lock-clear, perma-read-clear, perma-clear}
 
 -- the frame that was heard as x comes to the last row
 module _ (a : Air) (st : State) (r : Register) (idle : Idle (layoutOf (a .image)) (a .image)) where
@@ -183,12 +184,12 @@ module _ (a : Air) (r : Register) (idle : Idle (layoutOf (a .image)) (a .image))
           | false ↦ λ h c p. open-done (link h c p) order.ReqRn refl refl refl (unbroken (link h c p) p) refl
         ];
         read = elim [
-          | true ↦ λ h c b p n e. secured-done (link h c half.Nothing) (order.Read (span b p n)) refl refl refl e
-          | false ↦ λ h c b p n e. open-done (link h c half.Nothing) (order.Read (span b p n)) refl refl refl refl e
+          | true ↦ λ h c b p n e. secured-done (link h c half.Nothing) (order.Read (span b p n)) refl refl refl (read-clear (layoutOf (a .image)) (a .image) true b p n e)
+          | false ↦ λ h c b p n e. open-done (link h c half.Nothing) (order.Read (span b p n)) refl refl refl refl (read-clear (layoutOf (a .image)) (a .image) false b p n e)
         ];
         write = elim [
-          | true ↦ λ h c b p w e. secured-done (link h (cover.Number c) half.Nothing) (order.Write (span b p 1) w) refl refl refl e
-          | false ↦ λ h c b p w e. open-done (link h (cover.Number c) half.Nothing) (order.Write (span b p 1) w) refl refl refl refl e
+          | true ↦ λ h c b p w e. secured-done (link h (cover.Number c) half.Nothing) (order.Write (span b p 1) w) refl refl refl (write-clear (layoutOf (a .image)) (a .image) true b p 1 (bitXor w c) e)
+          | false ↦ λ h c b p w e. open-done (link h (cover.Number c) half.Nothing) (order.Write (span b p 1) w) refl refl refl refl (write-clear (layoutOf (a .image)) (a .image) false b p 1 (bitXor w c) e)
         ];
         kill-first = elim [
           | true ↦ λ h c w e. secured-done (link h (cover.Number c) half.Nothing) (order.Kill w) refl refl refl (no-code e)
@@ -198,7 +199,7 @@ module _ (a : Air) (r : Register) (idle : Idle (layoutOf (a .image)) (a .image))
           | true ↦ λ h c w up i j. secured-done (link h (cover.Number c) (half.Kill up)) (order.Kill w) refl refl (right up (bitXor w c) _ _ i j) refl
           | false ↦ λ h c w up i j. open-done (link h (cover.Number c) (half.Kill up)) (order.Kill w) refl refl refl (right up (bitXor w c) _ _ i j) refl
         ];
-        lock = λ h c mask action e. secured-done (link h c half.Nothing) (order.Lock mask action) refl refl refl e;
+        lock = λ h c mask action e. secured-done (link h c half.Nothing) (order.Lock mask action) refl refl refl (lock-clear (layoutOf (a .image)) (a .image) mask action e);
         access-first = elim [
           | true ↦ λ h c w. secured-done (link h (cover.Number c) half.Nothing) (order.Access w) refl refl refl refl
           | false ↦ λ h c w. open-done (link h (cover.Number c) half.Nothing) (order.Access w) refl refl refl refl refl
@@ -208,15 +209,15 @@ module _ (a : Air) (r : Register) (idle : Idle (layoutOf (a .image)) (a .image))
           | false ↦ λ h c w up i j. open-done (link h (cover.Number c) (half.Access up)) (order.Access w) refl refl refl (right up (bitXor w c) _ _ i j) refl
         ];
         block-write = elim [
-          | true ↦ λ h c b p n at l e. secured-done (link h c half.Nothing) (order.BlockWrite (span b p n) at) refl (some n l) refl e
-          | false ↦ λ h c b p n at l e. open-done (link h c half.Nothing) (order.BlockWrite (span b p n) at) refl refl (some n l) refl e
+          | true ↦ λ h c b p n at l e. secured-done (link h c half.Nothing) (order.BlockWrite (span b p n) at) refl (some n l) refl (write-clear (layoutOf (a .image)) (a .image) true b p n _ e)
+          | false ↦ λ h c b p n at l e. open-done (link h c half.Nothing) (order.BlockWrite (span b p n) at) refl refl (some n l) refl (write-clear (layoutOf (a .image)) (a .image) false b p n _ e)
         ];
         block-erase = elim [
-          | true ↦ λ h c b p n l e. secured-done (link h c half.Nothing) (order.BlockErase (span b p n)) refl (some n l) refl e
-          | false ↦ λ h c b p n l e. open-done (link h c half.Nothing) (order.BlockErase (span b p n)) refl refl (some n l) refl e
+          | true ↦ λ h c b p n l e. secured-done (link h c half.Nothing) (order.BlockErase (span b p n)) refl (some n l) refl (write-clear (layoutOf (a .image)) (a .image) true b p n 0 e)
+          | false ↦ λ h c b p n l e. open-done (link h c half.Nothing) (order.BlockErase (span b p n)) refl refl (some n l) refl (write-clear (layoutOf (a .image)) (a .image) false b p n 0 e)
         ];
-        permalock-read = λ h c b p n l e. secured-done (link h c half.Nothing) (order.ReadPermalock 0 (span b p n)) refl (some n l) refl e;
-        permalock = λ h c b p n at l e. secured-done (link h c half.Nothing) (order.Permalock 0 (span b p n) at) refl (some n l) refl e;
+        permalock-read = λ h c p n l e. secured-done (link h c half.Nothing) (order.ReadPermalock 0 (span 3 p n)) refl (some n l) refl (perma-read-clear (layoutOf (a .image)) p n e);
+        permalock = λ h c p n at l e. secured-done (link h c half.Nothing) (order.Permalock 0 (span 3 p n) at) refl (some n l) refl (perma-clear (layoutOf (a .image)) (a .image) p n (a .frame) at e);
         nak = nak-done;
       }
 

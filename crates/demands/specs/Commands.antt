@@ -23,8 +23,7 @@ use Rattle.replies.specs.declared.Reply.{Reply}
 use Rattle.replies.specs.declared.Reply.the-variants as reply
 use Rattle.replies.specs.Replies.{replyBits, replyLength, replyBytes}
 use Rattle.replies.specs.Pack.{packed}
-use Rattle.rights.specs.declared.Code.the-variants as code
-use Rattle.rights.specs.Rights.{bankOf, spanWords, readCode, writeCode, lockedTo, lockCode, permaReadCode, permaCode}
+use Rattle.rights.specs.Rights.{bankOf, spanWords, lockedTo}
 use Rattle.stores.specs.Stores.{changeStores, powerStores}
 use Rattle.states.specs.declared.Cover.{Cover}
 use Rattle.states.specs.declared.Cover.the-variants as cover
@@ -41,6 +40,7 @@ use Rattle.states.specs.Commands.{accessWord, killWord, zeroKill, zeroAccess, i
 use Rattle.tag.specs.Power.{poweredTo}
 use Rattle.tag.specs.Table.{answered}
 use Rattle.tag.specs.Port.{numberIn, writtenWords, someUnwritten, withUnwritten, withKilled}
+use Rattle.demands.specs.Facts.{Readable, Writable, Lockable, PermaLockable}
 use Rattle.demands.specs.Calls.{powerUp, frame, Program, asked, Idle}
 use Rattle.demands.specs.Calls as call
 
@@ -102,12 +102,12 @@ pub record Radio (A : Program) (y : Layout) (a : Air) (r : Register) : Type 0 wh
   -- Req_RN with the handle: the fresh word is the cover number
   pub req-rn-cover : (q : Bool) (h : ℕ) (c : Cover) (p : Half)
       → Does A y a r h order.ReqRn (linked q (link h c p)) (linked q (link h (cover.Number (a .fresh)) p)) (reply.Number (a .fresh)) []
-  -- Read: the words of the span, where no code applies
-  pub read : (q : Bool) (h : ℕ) (c : Cover) (b p n : ℕ) → readCode y (a .image) q (span b p n) ≡ code.Nothing
+  -- Read: the words of the span, where nothing is against it
+  pub read : (q : Bool) (h : ℕ) (c : Cover) (b p n : ℕ) → Readable y (a .image) q b p n
       → Does A y a r h (order.Read (span b p n)) (linked q (link h c half.Nothing)) (linked q (link h cover.Nothing half.Nothing))
       (reply.Words (bankOf y b .at + p) (spanWords (bankOf y b) (span b p n)) h) []
   -- Write: the word without its cover, which is used up
-  pub write : (q : Bool) (h c : ℕ) (b p w : ℕ) → writeCode y (a .image) q (span b p 1) (bitXor w c) ≡ code.Nothing
+  pub write : (q : Bool) (h c : ℕ) (b p w : ℕ) → Writable y (a .image) q b p 1 (bitXor w c)
       → Does A y a r h (order.Write (span b p 1) w) (linked q (link h (cover.Number c) half.Nothing)) (linked q (link h cover.Nothing half.Nothing))
       (reply.Success h) (store (bankOf y b .at + p) (bitXor w c) ∷ [])
   -- Kill, the first half: it waits, without its cover; there is a kill password
@@ -117,7 +117,7 @@ pub record Radio (A : Program) (y : Layout) (a : Air) (r : Register) : Type 0 wh
   pub kill-second : (q : Bool) (h c w up : ℕ) → up ≡ killWord y (a .image) 0 → bitXor w c ≡ killWord y (a .image) 1
       → Does A y a r h (order.Kill w) (linked q (link h (cover.Number c) (half.Kill up))) state.Killed (reply.Success h) (store (y .status .at + 1) 1 ∷ [])
   -- Lock, in Secured: the masked bits of the lock word are the action's
-  pub lock : (h : ℕ) (c : Cover) (mask action : ℕ) → lockCode y (a .image) mask action ≡ code.Nothing
+  pub lock : (h : ℕ) (c : Cover) (mask action : ℕ) → Lockable y (a .image) mask action
       → Does A y a r h (order.Lock mask action) (state.Secured (link h c half.Nothing)) (state.Secured (link h cover.Nothing half.Nothing)) (reply.Success h)
       (store (y .status .at) (lockedTo (lockWord y (a .image)) mask action) ∷ [])
   -- Access, the first half, and the second where both are the password's
@@ -127,20 +127,20 @@ pub record Radio (A : Program) (y : Layout) (a : Air) (r : Register) : Type 0 wh
       → Does A y a r h (order.Access w) (linked q (link h (cover.Number c) (half.Access up))) (state.Secured (link h cover.Nothing half.Nothing)) (reply.Number h) []
   -- BlockWrite: the words of the frame
   pub block-write : (q : Bool) (h : ℕ) (c : Cover) (b p n at : ℕ) → 1 ≤ n
-      → writeCode y (a .image) q (span b p n) (fieldAt (a .frame) (at + 16 * (1 - p)) 16) ≡ code.Nothing
+      → Writable y (a .image) q b p n (fieldAt (a .frame) (at + 16 * (1 - p)) 16)
       → Does A y a r h (order.BlockWrite (span b p n) at) (linked q (link h c half.Nothing)) (linked q (link h cover.Nothing half.Nothing))
       (reply.Success h) (wordsTo (bankOf y b .at + p) (a .frame) at n)
   -- BlockErase: zeros
-  pub block-erase : (q : Bool) (h : ℕ) (c : Cover) (b p n : ℕ) → 1 ≤ n → writeCode y (a .image) q (span b p n) 0 ≡ code.Nothing
+  pub block-erase : (q : Bool) (h : ℕ) (c : Cover) (b p n : ℕ) → 1 ≤ n → Writable y (a .image) q b p n 0
       → Does A y a r h (order.BlockErase (span b p n)) (linked q (link h c half.Nothing)) (linked q (link h cover.Nothing half.Nothing))
       (reply.Success h) (below (λ j. store (bankOf y b .at + p + j) 0) n)
   -- BlockPermalock that reads: PERMA words
-  pub permalock-read : (h : ℕ) (c : Cover) (b p n : ℕ) → 1 ≤ n → permaReadCode y (span b p n) ≡ code.Nothing
-      → Does A y a r h (order.ReadPermalock 0 (span b p n)) (state.Secured (link h c half.Nothing)) (state.Secured (link h cover.Nothing half.Nothing))
+  pub permalock-read : (h : ℕ) (c : Cover) (p n : ℕ) → 1 ≤ n → p + n ≤ y .perma .words
+      → Does A y a r h (order.ReadPermalock 0 (span 3 p n)) (state.Secured (link h c half.Nothing)) (state.Secured (link h cover.Nothing half.Nothing))
       (reply.Words (y .perma .at + p) n h) []
   -- and one that locks: masked bits are added
-  pub permalock : (h : ℕ) (c : Cover) (b p n at : ℕ) → 1 ≤ n → permaCode y (a .image) (span b p n) (a .frame) at ≡ code.Nothing
-      → Does A y a r h (order.Permalock 0 (span b p n) at) (state.Secured (link h c half.Nothing)) (state.Secured (link h cover.Nothing half.Nothing))
+  pub permalock : (h : ℕ) (c : Cover) (p n at : ℕ) → 1 ≤ n → PermaLockable y (a .image) p n (a .frame) at
+      → Does A y a r h (order.Permalock 0 (span 3 p n) at) (state.Secured (link h c half.Nothing)) (state.Secured (link h cover.Nothing half.Nothing))
       (reply.Success h)
       (below (λ j. let i = y .perma .at + p + j in store i (bitOr (wordAt (a .image) i) (fieldAt (a .frame) (at + 16 * j) 16))) n)
   -- NAK: Arbitrate, and no reply

@@ -1,18 +1,22 @@
 -- Nothing vacuous: the hypotheses of each demand are met on the worked image, computed (RULES 7.4). Assumes nothing.
-use Prim.Native.Nat.{ℕ, _+_, _≤_}
-use mathlib.Core.Path.{_≡_, refl}
-use mathlib.Core.Bool.{false}
+use Prim.Native.Nat.{ℕ, _+_, _≤_, _<_}
+use mathlib.Core.Path.{_≡_, refl, sym, ap, _∙_}
+use mathlib.Core.Logic.{⊎-elim}
+use mathlib.Core.Bool.{false≢true, true, false, not, _||_}
 use mathlib.Core.List.{List, [], _∷_}
-use lib.Dec.{lit≤}
+use native.Mathlib.Omega.{arith}
+use lib.Dec.{eqb, ltb, lit<, lit≤}
 use lib.ListN.{length, replicate}
+use borrow.Author.Tests.{eqb-true, ltb-true, eq-eqb}
 use Rattle.bits.specs.Words.{Bytes, wordAt, withWord, Store, store}
-use Rattle.bits.specs.Bits.{fieldAt, bitsOf, wordsBits}
-use Rattle.bits.specs.Below.{below}
+use Rattle.bits.specs.Bits.{bitAt, fieldAt, bitsOf, wordsBits}
+use Rattle.bits.specs.Below.{below, every}
+use Rattle.bits.proofs.Below.{every-at, or-cases}
 use Rattle.bits.proofs.Words.{are-bytes}
 use Rattle.crc.specs.Crc.{crcOf}
 use Rattle.ebv.specs.Ebv.{pointerAt}
 use Rattle.image.specs.Layout.{layoutOf, headerGood, blocksIn}
-use Rattle.image.specs.Content.{permalock, rulesHold, contentGood}
+use Rattle.image.specs.Content.{lockWord, permalock, rulesHold, contentGood}
 use Rattle.image.specs.Check.{checkOf}
 use Rattle.image.specs.Worked.{worked, workedLayout}
 use Rattle.frames.specs.declared.Order.{Order}
@@ -23,8 +27,7 @@ use Rattle.replies.specs.declared.Reply.{Reply}
 use Rattle.replies.specs.declared.Reply.the-variants as reply
 use Rattle.replies.specs.Pack.{filled, packed}
 use Rattle.replies.specs.Replies.{checked}
-use Rattle.rights.specs.declared.Code.the-variants as code
-use Rattle.rights.specs.Rights.{readCode, writeCode, lockedTo, lockCode, permaReadCode, permaCode}
+use Rattle.rights.specs.Rights.{pwdBit, permaBit, mayWrite, readCode, writeCode, lockedTo, lockCode, permaReadCode, permaCode}
 use Rattle.stores.specs.Stores.{powerStores}
 use Rattle.stores.specs.Worked.{worked-bytes}
 use Rattle.tag.specs.declared.Answer.the-variants as answer
@@ -36,6 +39,7 @@ use Rattle.tag.specs.Table.{frameOf}
 use Rattle.tag.specs.Port.{writeOf}
 use Rattle.demands.specs.Calls.{Tag, frame, answerOf, Meets, Idle}
 use Rattle.demands.specs.Demands.{byPort, told, Stores}
+use Rattle.demands.specs.Facts.{Readable, Writable, Lockable, PermaLockable}
 use Rattle.demands.specs.Commands.{Air, Says, Enough, wordsTo}
 use Rattle.demands.specs.Worked.{reqRn, write3, readTwo, usedUp}
 use Rattle.demands.specs.Torn.{tag, p7}
@@ -89,6 +93,36 @@ outcome = record { answer = answer.Done; session = usedUp; reply = 33; stores = 
 abbrev holder : Tag
 holder = record { session = holding state.Arbitrate false false; image = worked }
 
+-- facts about each word or bit, from a computed test of all
+writable : (p n pc : ℕ) → p < 16 → p + n ≤ 16 → every (λ j. mayWrite workedLayout worked false 3 (p + j)) n ≡ true → n ≤ 16 → Writable workedLayout worked false 3 p n pc
+writable p n pc a b e c =
+    record {
+      within = (a, b);
+      right = every-at (λ j. mayWrite workedLayout worked false 3 (p + j)) n e;
+      length = λ t. absurd (omega (arith, t .0));
+      few = c;
+    }
+
+lockable : every (λ k. not (eqb (permaBit (lockWord workedLayout worked) k) 1)) 5 ≡ true → Lockable workedLayout worked 0x020 0x020
+lockable e =
+    record {
+      pairs = λ k l q.
+          absurd (false≢true (sym (ap not (eq-eqb (permaBit (lockWord workedLayout worked) k) 1 q)) ∙ every-at (λ k. not (eqb (permaBit (lockWord workedLayout worked) k) 1)) 5 e k l));
+      user = λ f. absurd (f refl);
+    }
+
+perma-lockable : every (λ k. eqb (bitAt perma3 (35 + k)) 0 || ltb k 4) 16 ≡ true → pwdBit (lockWord workedLayout worked) 4 ≡ 0 → permaBit (lockWord workedLayout worked) 4 ≡ 0
+    → blocksIn workedLayout ≡ 4 → PermaLockable workedLayout worked 0 1 perma3 35
+perma-lockable e p q b =
+    record {
+      within = lit≤ tt;
+      blocks = λ k l d.
+          (let z : k < 4 =
+          ⊎-elim (λ z. absurd (d (eqb-true _ _ z))) (λ z. ltb-true k 4 z) (or-cases (eqb (bitAt perma3 (35 + k)) 0) (ltb k 4) (every-at (λ k. eqb (bitAt perma3 (35 + k)) 0 || ltb k 4) 16 e k l)) in
+          omega (arith, b, z));
+      user = λ z f. omega (arith, q, f);
+    }
+
 pub record Met : Type 0 where
   -- demand 1: an outcome that meets the promise
   pub one : Meets answerOf tag (frame write3 66 0x1234 (replicate 12 0xAA) 5) outcome (answerOf tag (told p7 5) .image) (answerOf tag (told p7 5) .room)
@@ -98,23 +132,23 @@ pub record Met : Type 0 where
   pub req-rn : Comes reqRn 40 0xBEEF order.ReqRn (reply.Number 0x5678) []
   pub req-rn-cover : Comes reqCover 40 0x1234 order.ReqRn (reply.Number 0x5678) []
   pub read : Comes readTwo 58 0x1234 (order.Read (span 3 2 2)) (reply.Words 30 2 0x1234) []
-  pub read-right : readCode workedLayout worked false (span 3 2 2) ≡ code.Nothing
+  pub read-right : Readable workedLayout worked false 3 2 2
   pub write : Comes write3 66 0x1234 (order.Write (span 3 3 1) 0xF197) (reply.Success 0x1234) (store 31 0xABCD ∷ [])
-  pub write-right : writeCode workedLayout worked false (span 3 3 1) 0xABCD ≡ code.Nothing
+  pub write-right : Writable workedLayout worked false 3 3 1 0xABCD
   pub kill-first : Comes kill1 59 0x1234 (order.Kill 0x1113) (reply.Number 0x1234) []
   pub kill-password : zeroKill workedLayout worked ≡ false
   pub kill-second : Comes kill2 59 0x1234 (order.Kill 0x1616) (reply.Success 0x1234) (store 17 1 ∷ [])
   pub lock : Comes lock1 60 0x1234 (order.Lock 0x020 0x020) (reply.Success 0x1234) (store 16 0x020 ∷ [])
-  pub lock-right : lockCode workedLayout worked 0x020 0x020 ≡ code.Nothing
+  pub lock-right : Lockable workedLayout worked 0x020 0x020
   pub access-half : Comes access 56 0x1234 (order.Access 0x5A5A) (reply.Number 0x1234) []
   pub block-write : Comes block2 90 0x1234 (order.BlockWrite (span 3 2 2) 26) (reply.Success 0x1234) (wordsTo 30 block2 26 2)
-  pub block-write-right : writeCode workedLayout worked false (span 3 2 2) 0x1111 ≡ code.Nothing
+  pub block-write-right : Writable workedLayout worked false 3 2 2 0x1111
   pub block-erase : Comes erase2 58 0x1234 (order.BlockErase (span 3 2 2)) (reply.Success 0x1234) (below (λ j. store (30 + j) 0) 2)
-  pub block-erase-right : writeCode workedLayout worked false (span 3 2 2) 0 ≡ code.Nothing
+  pub block-erase-right : Writable workedLayout worked false 3 2 2 0
   pub permalock-read : Comes permaRead 67 0x1234 (order.ReadPermalock 0 (span 3 0 1)) (reply.Words 44 1 0x1234) []
-  pub permalock-read-right : permaReadCode workedLayout (span 3 0 1) ≡ code.Nothing
+  pub permalock-read-right : 0 + 1 ≤ workedLayout .perma .words
   pub permalocks : Comes perma3 83 0x1234 (order.Permalock 0 (span 3 0 1) 35) (reply.Success 0x1234) (store 44 0x1000 ∷ [])
-  pub permalocks-right : permaCode workedLayout worked (span 3 0 1) perma3 35 ≡ code.Nothing
+  pub permalocks-right : PermaLockable workedLayout worked 0 1 perma3 35
   pub nak : heardOf (0xC0 ∷ []) 8 ≡ heard.Nak
   pub engine : (2 + 4 ≤ workedLayout .user .words) × (length fourWords ≡ 8)
   -- demand 3: a Write of one word and an SPI write of four, done; the power-ups after their cuts, whole
@@ -134,23 +168,23 @@ met =
       req-rn = (record { heard = refl; right = refl }, (lit≤ tt, lit≤ tt));
       req-rn-cover = (record { heard = refl; right = refl }, (lit≤ tt, lit≤ tt));
       read = (record { heard = refl; right = refl }, (lit≤ tt, lit≤ tt));
-      read-right = refl;
+      read-right = record { within = (lit< tt, lit≤ tt); right = λ j l. refl };
       write = (record { heard = refl; right = refl }, (lit≤ tt, lit≤ tt));
-      write-right = refl;
+      write-right = writable 3 1 0xABCD (lit< tt) (lit≤ tt) refl (lit≤ tt);
       kill-first = (record { heard = refl; right = refl }, (lit≤ tt, lit≤ tt));
       kill-password = refl;
       kill-second = (record { heard = refl; right = refl }, (lit≤ tt, lit≤ tt));
       lock = (record { heard = refl; right = refl }, (lit≤ tt, lit≤ tt));
-      lock-right = refl;
+      lock-right = lockable refl;
       access-half = (record { heard = refl; right = refl }, (lit≤ tt, lit≤ tt));
       block-write = (record { heard = refl; right = refl }, (lit≤ tt, lit≤ tt));
-      block-write-right = refl;
+      block-write-right = writable 2 2 0x1111 (lit< tt) (lit≤ tt) refl (lit≤ tt);
       block-erase = (record { heard = refl; right = refl }, (lit≤ tt, lit≤ tt));
-      block-erase-right = refl;
+      block-erase-right = writable 2 2 0 (lit< tt) (lit≤ tt) refl (lit≤ tt);
       permalock-read = (record { heard = refl; right = refl }, (lit≤ tt, lit≤ tt));
-      permalock-read-right = refl;
+      permalock-read-right = lit≤ tt;
       permalocks = (record { heard = refl; right = refl }, (lit≤ tt, lit≤ tt));
-      permalocks-right = refl;
+      permalocks-right = perma-lockable refl refl refl refl;
       nak = refl;
       engine = (lit≤ tt, refl);
       radio-done = record { bytes = worked-bytes; idle = record { sound = refl; nothing = refl }; some = lit≤ tt; done = refl; words = refl };
