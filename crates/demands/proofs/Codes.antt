@@ -26,7 +26,8 @@ use Rattle.states.specs.declared.Half.the-variants as half
 use Rattle.states.specs.Commands.{linkOf, isSecured, zeroKill}
 use Rattle.plans.specs.Effects.{Scene, halfKill, halfAccess, effectOf}
 use Rattle.demands.specs.Demands.{AnErrorCode}
-use Rattle.demands.specs.Facts.{Within, Past, TakesPc, AllRight, Readable, Writable, Lockable, PermaLockable}
+use Rattle.demands.proofs.Rights.{reads-if, reads-not, writes-if, writes-not}
+use Rattle.demands.specs.Facts.{MayRead, MayWrite, Within, Past, TakesPc, AllRight, Readable, Writable, Lockable, PermaLockable}
 
 pub or-right : (a b : Bool) → b ≡ true → a || b ≡ true
 or-right true b e = refl
@@ -48,10 +49,10 @@ module _ (y : Layout) (m : List ℕ) (q : Bool) (b p n : ℕ) where
   unfolding readCode
   read-past f = rw (past-beyond (bankOf y b) b p n f)
 
-  pub read-right : (j : ℕ) → Within (bankOf y b .words) p n → (j < n) ⊎ ((n ≡ 0) × (p + j < bankOf y b .words)) → mayRead y m q b (p + j) ≡ false
+  pub read-right : (j : ℕ) → Within (bankOf y b .words) p n → (j < n) ⊎ ((n ≡ 0) × (p + j < bankOf y b .words)) → (MayRead y m q b (p + j) → ⊥)
       → readCode y m q (span b p n) ≡ code.Error 0x04
   unfolding readCode
-  read-right j w d e = rw (within-beyond (bankOf y b) b p n w, every-not (λ i. mayRead y m q b (p + i)) (spanWords (bankOf y b) (span b p n)) j (inside d) e)
+  read-right j w d e = rw (within-beyond (bankOf y b) b p n w, every-not (λ i. mayRead y m q b (p + i)) (spanWords (bankOf y b) (span b p n)) j (inside d) (reads-not y m q b (p + j) e))
     where
       inside : (j < n) ⊎ ((n ≡ 0) × (p + j < bankOf y b .words)) → j < spanWords (bankOf y b) (span b p n)
       inside (inl l) = rw (ne-eqb n 0 (omega arith)) l
@@ -62,12 +63,12 @@ module _ (y : Layout) (m : List ℕ) (q : Bool) (b p n : ℕ) where
     unfolding writeCode
     write-past f = rw (past-beyond (bankOf y b) b p n f)
 
-    pub write-right : (j : ℕ) → Within (bankOf y b .words) p n → j < n → mayWrite y m q b (p + j) ≡ false → writeCode y m q (span b p n) pc ≡ code.Error 0x04
+    pub write-right : (j : ℕ) → Within (bankOf y b .words) p n → j < n → b < 4 → (MayWrite y m q b (p + j) → ⊥) → writeCode y m q (span b p n) pc ≡ code.Error 0x04
     unfolding writeCode
-    write-right j w l e = rw (within-beyond (bankOf y b) b p n w, every-not (λ i. mayWrite y m q b (p + i)) n j l e)
+    write-right j w l s e = rw (within-beyond (bankOf y b) b p n w, every-not (λ i. mayWrite y m q b (p + i)) n j l (writes-not y m q b (p + j) s e))
 
     all-right : AllRight y m q b p n → every (λ i. mayWrite y m q b (p + i)) n ≡ true
-    all-right f = every-all (λ i. mayWrite y m q b (p + i)) n f
+    all-right f = every-all (λ i. mayWrite y m q b (p + i)) n (λ j l. writes-if y m q b (p + j) (f j l))
 
     pub write-pc : Within (bankOf y b .words) p n → AllRight y m q b p n → TakesPc b p n → y .epc .words < lengthOf pc + 2
         → writeCode y m q (span b p n) pc ≡ code.Error 0x03
@@ -172,7 +173,7 @@ module _ (y : Layout) (m : List ℕ) (f : List ℕ) (p n at : ℕ) where
 pub read-clear : (y : Layout) (m : List ℕ) (q : Bool) (b p n : ℕ) → Readable y m q b p n → readCode y m q (span b p n) ≡ code.Nothing
 unfolding readCode
 read-clear y m q b p n r =
-    rw (within-beyond (bankOf y b) b p n (r .within), every-all (λ i. mayRead y m q b (p + i)) (spanWords (bankOf y b) (span b p n)) (λ j l. r .right j (inside (eqb n 0) refl l)))
+    rw (within-beyond (bankOf y b) b p n (r .within), every-all (λ i. mayRead y m q b (p + i)) (spanWords (bankOf y b) (span b p n)) (λ j l. reads-if y m q b (p + j) (r .right j (inside (eqb n 0) refl l))))
   where
     inside : {j : ℕ} (t : Bool) → eqb n 0 ≡ t → j < cond (eqb n 0) (bankOf y b .words - p) n → (j < n) ⊎ ((n ≡ 0) × (p + j < bankOf y b .words))
     inside {j} true e l = let k : j < bankOf y b .words - p = rw e at l in inr (eqb-true n 0 e, omega (arith, k))

@@ -5,6 +5,7 @@ pub mod Rising
 pub mod Cuts
 pub mod Runs
 pub mod Whole
+pub mod Rights
 pub mod Codes
 pub mod Tables
 pub mod Commands

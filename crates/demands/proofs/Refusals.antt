@@ -17,11 +17,13 @@ use Rattle.image.specs.Layout.{layoutOf, pairsIn}
 use Rattle.image.specs.Content.{countIn}
 use Rattle.image.specs.Check.{checkOf, refused, good, short, headerWrong, contentBroken, imageRows}
 use Rattle.image.proofs.Answers.{check-good, check-0}
+use Rattle.frames.specs.declared.Span.{Span}
 use Rattle.frames.specs.declared.Order.{Order}
 use Rattle.frames.specs.declared.Order.the-variants as order
 use Rattle.frames.specs.declared.Heard.{Heard}
 use Rattle.frames.specs.declared.Heard.the-variants as heard
 use Rattle.frames.specs.Frames.{span, heardOf}
+use Rattle.frames.proofs.Orders.{said-small}
 use Rattle.replies.specs.declared.Reply.{Reply}
 use Rattle.replies.specs.declared.Reply.the-variants as reply
 use Rattle.replies.specs.Replies.{replyBits, replyLength}
@@ -433,6 +435,23 @@ module _ (a : Air) (r : Register) (idle : Idle (layoutOf (a .image)) (a .image))
   brings-needs (order.ReadPermalock rfu s) q c b p n pc f = absurd f
   brings-needs (order.Permalock rfu s at) q c b p n pc f = absurd f
 
+  -- a bank's number has two bits
+  bank-small : (o : Order) (c : Cover) (b p n pc h : ℕ) → Says a h o → Brings a c o b p n pc → b < 4
+  bank-small order.ReqRn c b p n pc h s f = absurd f
+  bank-small (order.Read x) c b p n pc h s f = absurd f
+  bank-small (order.Write x w) cover.Nothing b p n pc h s f = absurd f
+  bank-small (order.Write x w) (cover.Number k) b p n pc h s f =
+      subst (λ (z : Span). z .bank < 4) (f .0) (said-small (a .frame) (a .bits) (record { number = h; order = order.Write x w }) (s .heard) .0)
+  bank-small (order.Kill w) c b p n pc h s f = absurd f
+  bank-small (order.Lock mask action) c b p n pc h s f = absurd f
+  bank-small (order.Access w) c b p n pc h s f = absurd f
+  bank-small (order.BlockWrite x at) c b p n pc h s f =
+      subst (λ (z : Span). z .bank < 4) (f .0) (said-small (a .frame) (a .bits) (record { number = h; order = order.BlockWrite x at }) (s .heard))
+  bank-small (order.BlockErase x) c b p n pc h s f =
+      subst (λ (z : Span). z .bank < 4) (f .0) (said-small (a .frame) (a .bits) (record { number = h; order = order.BlockErase x }) (s .heard))
+  bank-small (order.ReadPermalock rfu x) c b p n pc h s f = absurd f
+  bank-small (order.Permalock rfu x at) c b p n pc h s f = absurd f
+
   brings-code : (o : Order) (q : Bool) (c : Cover) (b p n pc : ℕ) → Brings a c o b p n pc
       → codeBy q c o ≡ writeCode (layoutOf (a .image)) (a .image) q (span b p n) pc
   unfolding codeBy
@@ -458,7 +477,7 @@ module _ (a : Air) (r : Register) (idle : Idle (layoutOf (a .image)) (a .image))
           write-past = λ o b p n pc s f d.
               says-10 q h c o 0x03 s (brings-needs o q c b p n pc f) l (brings-code o q c b p n pc f ∙ codes.write-past (layoutOf (a .image)) (a .image) q b p n pc d);
           write-right = λ o b p n pc j s f w i e.
-              says-10 q h c o 0x04 s (brings-needs o q c b p n pc f) l (brings-code o q c b p n pc f ∙ codes.write-right (layoutOf (a .image)) (a .image) q b p n pc j w i e);
+              says-10 q h c o 0x04 s (brings-needs o q c b p n pc f) l (brings-code o q c b p n pc f ∙ codes.write-right (layoutOf (a .image)) (a .image) q b p n pc j w i (bank-small o c b p n pc h s f) e);
           write-pc = λ o b p n pc s f w g t e.
               says-10 q h c o 0x03 s (brings-needs o q c b p n pc f) l (brings-code o q c b p n pc f ∙ codes.write-pc (layoutOf (a .image)) (a .image) q b p n pc w g t e);
           write-many = λ o b p n pc s f w g t e.

@@ -1,7 +1,7 @@
 -- Nothing vacuous: the hypotheses of each demand are met on the worked image, computed (RULES 7.4). Assumes nothing.
-use Prim.Native.Nat.{ℕ, _+_, _≤_, _<_}
+use Prim.Native.Nat.{ℕ, _+_, _/_, _≤_, _<_}
 use mathlib.Core.Path.{_≡_, refl, sym, ap, _∙_}
-use mathlib.Core.Logic.{⊎-elim}
+use mathlib.Core.Logic.{_≢_, inl, inr, ⊎-elim}
 use mathlib.Core.Bool.{false≢true, true, false, not, _||_}
 use mathlib.Core.List.{List, [], _∷_}
 use native.Mathlib.Omega.{arith}
@@ -27,7 +27,7 @@ use Rattle.replies.specs.declared.Reply.{Reply}
 use Rattle.replies.specs.declared.Reply.the-variants as reply
 use Rattle.replies.specs.Pack.{filled, packed}
 use Rattle.replies.specs.Replies.{checked}
-use Rattle.rights.specs.Rights.{pwdBit, permaBit, mayWrite, readCode, writeCode, lockedTo, lockCode, permaReadCode, permaCode}
+use Rattle.rights.specs.Rights.{pwdBit, permaBit, readCode, writeCode, lockedTo, lockCode, permaReadCode, permaCode}
 use Rattle.stores.specs.Stores.{powerStores}
 use Rattle.stores.specs.Worked.{worked-bytes}
 use Rattle.tag.specs.declared.Answer.the-variants as answer
@@ -94,11 +94,15 @@ abbrev holder : Tag
 holder = record { session = holding state.Arbitrate false false; image = worked }
 
 -- facts about each word or bit, from a computed test of all
-writable : (p n pc : ℕ) → p < 16 → p + n ≤ 16 → every (λ j. mayWrite workedLayout worked false 3 (p + j)) n ≡ true → n ≤ 16 → Writable workedLayout worked false 3 p n pc
-writable p n pc a b e c =
+three : _≢_ {A = ℕ} 3 0
+three e = omega (arith, e)
+
+writable : (p n pc : ℕ) → p < 16 → p + n ≤ 16 → pwdBit (lockWord workedLayout worked) 4 ≡ 0
+    → every (λ j. eqb (permalock workedLayout worked ((p + j) / 4)) 0) n ≡ true → n ≤ 16 → Writable workedLayout worked false 3 p n pc
+writable p n pc a b o e c =
     record {
       within = (a, b);
-      right = every-at (λ j. mayWrite workedLayout worked false 3 (p + j)) n e;
+      right = λ j l. inr (inr (inr (refl, inl o, eqb-true _ _ (every-at (λ j. eqb (permalock workedLayout worked ((p + j) / 4)) 0) n e j l))));
       length = λ t. absurd (omega (arith, t .0));
       few = c;
     }
@@ -168,9 +172,9 @@ met =
       req-rn = (record { heard = refl; right = refl }, (lit≤ tt, lit≤ tt));
       req-rn-cover = (record { heard = refl; right = refl }, (lit≤ tt, lit≤ tt));
       read = (record { heard = refl; right = refl }, (lit≤ tt, lit≤ tt));
-      read-right = record { within = (lit< tt, lit≤ tt); right = λ j l. refl };
+      read-right = record { within = (lit< tt, lit≤ tt); right = λ j l. inl three };
       write = (record { heard = refl; right = refl }, (lit≤ tt, lit≤ tt));
-      write-right = writable 3 1 0xABCD (lit< tt) (lit≤ tt) refl (lit≤ tt);
+      write-right = writable 3 1 0xABCD (lit< tt) (lit≤ tt) refl refl (lit≤ tt);
       kill-first = (record { heard = refl; right = refl }, (lit≤ tt, lit≤ tt));
       kill-password = refl;
       kill-second = (record { heard = refl; right = refl }, (lit≤ tt, lit≤ tt));
@@ -178,9 +182,9 @@ met =
       lock-right = lockable refl;
       access-half = (record { heard = refl; right = refl }, (lit≤ tt, lit≤ tt));
       block-write = (record { heard = refl; right = refl }, (lit≤ tt, lit≤ tt));
-      block-write-right = writable 2 2 0x1111 (lit< tt) (lit≤ tt) refl (lit≤ tt);
+      block-write-right = writable 2 2 0x1111 (lit< tt) (lit≤ tt) refl refl (lit≤ tt);
       block-erase = (record { heard = refl; right = refl }, (lit≤ tt, lit≤ tt));
-      block-erase-right = writable 2 2 0 (lit< tt) (lit≤ tt) refl (lit≤ tt);
+      block-erase-right = writable 2 2 0 (lit< tt) (lit≤ tt) refl refl (lit≤ tt);
       permalock-read = (record { heard = refl; right = refl }, (lit≤ tt, lit≤ tt));
       permalock-read-right = lit≤ tt;
       permalocks = (record { heard = refl; right = refl }, (lit≤ tt, lit≤ tt));

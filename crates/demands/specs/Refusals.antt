@@ -21,7 +21,7 @@ use Rattle.frames.specs.Frames.{span, heardOf, checksumRight}
 use Rattle.replies.specs.declared.Reply.the-variants as reply
 use Rattle.replies.specs.Replies.{replyBits}
 use Rattle.replies.specs.Pack.{packed}
-use Rattle.rights.specs.Rights.{bankOf, pwdBit, permaBit, mayRead, mayWrite, lockedTo}
+use Rattle.rights.specs.Rights.{bankOf, pwdBit, permaBit, lockedTo}
 use Rattle.states.specs.declared.Cover.{Cover}
 use Rattle.states.specs.declared.Cover.the-variants as cover
 use Rattle.states.specs.declared.Half.{Half}
@@ -35,7 +35,7 @@ use Rattle.tag.specs.Result.{Result, leaves}
 use Rattle.states.specs.Commands.{accessWord, killWord}
 use Rattle.demands.specs.Calls.{Call, powerUp, admit, ask, release, register, read, write, Tag, Program, asked, Idle}
 use Rattle.demands.specs.Demands.{Storing, told}
-use Rattle.demands.specs.Facts.{Within, Past, TakesPc, AllRight}
+use Rattle.demands.specs.Facts.{MayRead, MayWrite, Within, Past, TakesPc, AllRight}
 use Rattle.demands.specs.Commands.{Air, hears, linked, link, Says}
 
 -- everything as before
@@ -138,13 +138,13 @@ pub record Errors (A : Program) (y : Layout) (a : Air) (r : Register) (q : Bool)
   pub read-past : (b p n : ℕ) → Says a h (order.Read (span b p n)) → Past (bankOf y b .words) p n
       → hears A a (on (linked q (link h c half.Nothing)) false r) ≡ errs a r q h half.Nothing 0x03
   pub read-right : (b p n j : ℕ) → Says a h (order.Read (span b p n)) → Within (bankOf y b .words) p n
-      → (j < n) ⊎ ((n ≡ 0) × (p + j < bankOf y b .words)) → mayRead y (a .image) q b (p + j) ≡ false
+      → (j < n) ⊎ ((n ≡ 0) × (p + j < bankOf y b .words)) → (MayRead y (a .image) q b (p + j) → ⊥)
       → hears A a (on (linked q (link h c half.Nothing)) false r) ≡ errs a r q h half.Nothing 0x04
   -- the writing commands, in order: past the end, a word that lacks the right, a PC whose length doesn't fit, more words than W
   pub write-past : (o : Order) (b p n pc : ℕ) → Says a h o → Brings a c o b p n pc → Past (bankOf y b .words) p n
       → hears A a (on (linked q (link h c half.Nothing)) false r) ≡ errs a r q h half.Nothing 0x03
   pub write-right : (o : Order) (b p n pc j : ℕ) → Says a h o → Brings a c o b p n pc → Within (bankOf y b .words) p n
-      → j < n → mayWrite y (a .image) q b (p + j) ≡ false
+      → j < n → (MayWrite y (a .image) q b (p + j) → ⊥)
       → hears A a (on (linked q (link h c half.Nothing)) false r) ≡ errs a r q h half.Nothing 0x04
   pub write-pc : (o : Order) (b p n pc : ℕ) → Says a h o → Brings a c o b p n pc → Within (bankOf y b .words) p n
       → AllRight y (a .image) q b p n → TakesPc b p n → y .epc .words < lengthOf pc + 2
