@@ -1,6 +1,7 @@
 -- Demand 2: where no refusal applies, the table gives its last row; command by command. Assumes nothing.
-use Prim.Native.Nat.{ℕ, _+_, _*_, _/_, _%_, _≤_}
+use Prim.Native.Nat.{ℕ, _+_, _-_, _*_, _/_, _%_, _≤_}
 use mathlib.Core.Path.{_≡_, refl, sym, ap, ap₂, _∙_, subst}
+use mathlib.Core.Logic.{_≢_, _⊎_, inl, inr}
 use mathlib.Core.Bool.{Bool, true, false, cond, not, _&&_}
 use mathlib.Core.List.{List, [], _∷_, _++_}
 use native.Mathlib.Omega.{arith}
@@ -21,6 +22,8 @@ use Rattle.replies.specs.declared.Reply.{Reply}
 use Rattle.replies.specs.declared.Reply.the-variants as reply
 use Rattle.replies.specs.Replies.{replyBits, replyLength, replyBytes}
 use Rattle.replies.specs.Pack.{packed}
+use Rattle.replies.proofs.Laws.{length-reply}
+use Rattle.rights.specs.Rights.{bankOf, spanWords}
 use Rattle.rights.specs.declared.Code.{Code}
 use Rattle.rights.specs.declared.Code.the-variants as code
 use Rattle.stores.specs.Stores.{changeStores}
@@ -35,15 +38,30 @@ use Rattle.states.specs.declared.State.the-variants as state
 use Rattle.tag.specs.declared.Session.{Session}
 use Rattle.tag.specs.Session.{offSession, on}
 use Rattle.tag.specs.Result.{Result, leaves, gives}
-use Rattle.states.specs.Commands.{asksOf, linkOf, isCovered, isKilled, wrong, wrongCommand, breaks}
+use Rattle.states.specs.Commands.{asksOf, linkOf, isCovered, isKilled, wrong, wrongCommand, breaks, accessWord, isLinked}
 use Rattle.plans.specs.Effects.{Effect, effectOf}
 use Rattle.tag.specs.Table.{Input, input, malformed, checksumWrong, broken, comes, effect, isError, replyOr, replyOf, storesOf, fits, replied, rows, frameOf, admitOf}
 use Rattle.tag.specs.Port.{badCount, badData, refusals, withKilled, withUnwritten, someUnwritten, writtenWords, readBits, portWords, askOf, releaseOf, registerOf, readOf, writeOf}
 use Rattle.demands.specs.Calls.{answerOf, Idle}
-use Rattle.demands.specs.Commands.{Air, hears, link, done, Does, Radio, Engine, Demand2}
+use Rattle.demands.specs.Commands.{Air, hears, linked, link, done, Does, Radio, Calls, Engine, Demand2}
 use Rattle.demands.proofs.Rows.{Rows, None, none-first}
 use Rattle.demands.proofs.Cuts.{started-so}
-use Rattle.demands.proofs.Codes.{read-clear, write-clear, lock-clear, perma-read-clear, perma-clear}
+use Rattle.demands.proofs.Codes.{and-false, read-clear, write-clear, lock-clear, perma-read-clear, perma-clear}
+
+-- states by name
+not-killed : (st : State) → st ≢ state.Killed → isKilled st ≡ false
+not-killed state.Arbitrate d = refl
+not-killed (state.Acknowledged n) d = refl
+not-killed (state.Open k) d = refl
+not-killed (state.Secured k) d = refl
+not-killed state.Killed d = absurd (d refl)
+
+not-linked : (st : State) → ((q : Bool) (k : Link) → st ≢ linked q k) → isLinked st ≡ false
+not-linked state.Arbitrate d = refl
+not-linked (state.Acknowledged n) d = refl
+not-linked (state.Open k) d = absurd (d false k refl)
+not-linked (state.Secured k) d = absurd (d true k refl)
+not-linked state.Killed d = refl
 
 -- the frame that was heard as x comes to the last row
 module _ (a : Air) (st : State) (r : Register) (idle : Idle (layoutOf (a .image)) (a .image)) where
@@ -63,6 +81,17 @@ module _ (a : Air) (st : State) (r : Register) (idle : Idle (layoutOf (a .image)
         image = after (a .image) ss;
         room = packed (replyBits (a .image) rp) (a .room);
       }
+
+  -- and by the reply's bits
+  given-done : (rp : Reply) (st′ : State) (ws : List Store) → given rp st′ ws ≡ done (layoutOf (a .image)) a r st′ rp ws
+  unfolding given
+  given-done rp st′ ws =
+      let ss = changeStores (layoutOf (a .image) .work .at) ws in
+      ap (λ (k : ℕ). record { number = 0; session = on st′ false r; reply = k; stores = length ss; value = 0; image = after (a .image) ss; room = packed (replyBits (a .image) rp) (a .room) })
+      (sym (length-reply (a .image) rp))
+
+  in-bytes : (rp : Reply) → length (replyBits (a .image) rp) ≤ 8 * length (a .room) → replyBytes rp ≤ length (a .room)
+  in-bytes rp l = let k = length-reply (a .image) rp in omega (arith, l, k)
 
   fitting : (rp : Reply) → replyBytes rp ≤ length (a .room) → fits rp (a .room) ≡ true
   fitting rp l = ap not (le-ltb (length (a .room)) (replyBytes rp) l)
@@ -145,7 +174,8 @@ module _ (a : Air) (r : Register) (idle : Idle (layoutOf (a .image)) (a .image))
       → breaks (layoutOf (a .image)) (a .image) (linkOf st) (linkOf st .half) (asksOf o .part) ≡ false → at st o .code ≡ code.Nothing → Comes n o st
   unfolding handed given at Comes
   order-done st n o w b e says enough =
-      last-row a st r idle (heard.Said (record { number = n; order = o })) (says .heard) refl (ap not (says .right)) w b e (enough .0) (enough .1)
+      last-row a st r idle (heard.Said (record { number = n; order = o })) (says .heard) refl (ap not (says .right)) w b e (in-bytes a st r idle (at st o .reply) (enough .0)) (enough .1)
+      ∙ given-done a st r idle (at st o .reply) (at st o .state) (at st o .words)
 
   secured-done : (k : Link) (o : Order) → asksOf o .cover && not (isCovered (k .cover)) ≡ false → asksOf o .bad ≡ false
       → breaks (layoutOf (a .image)) (a .image) k (k .half) (asksOf o .part) ≡ false → at (state.Secured k) o .code ≡ code.Nothing → Comes (k .handle) o (state.Secured k)
@@ -160,12 +190,25 @@ module _ (a : Air) (r : Register) (idle : Idle (layoutOf (a .image)) (a .image))
   unbroken k (half.Access up) = refl
   unbroken k (half.Kill up) = refl
 
-  nak-done : (st : State) → isKilled st ≡ false → heardOf (a .frame) (a .bits) ≡ heard.Nak → hears answerOf a (on st false r) ≡ done (layoutOf (a .image)) a r state.Arbitrate reply.Silence []
+  nak-done : (st : State) → st ≢ state.Killed → heardOf (a .frame) (a .bits) ≡ heard.Nak → hears answerOf a (on st false r) ≡ done (layoutOf (a .image)) a r state.Arbitrate reply.Silence []
   unfolding handed given
-  nak-done st k e = last-row a st r idle heard.Nak e refl refl k refl refl (omega arith) (omega arith)
+  nak-done st k e = last-row a st r idle heard.Nak e refl refl (not-killed st k) refl refl (omega arith) (omega arith)
 
   some : (n : ℕ) → 1 ≤ n → eqb n 0 ≡ false
   some n l = ne-eqb n 0 (λ e. omega arith)
+
+  -- the state that Req_RN opens, by the access password; and words of a Read
+  numbered-so : Bool → Result
+  numbered-so t = done (layoutOf (a .image)) a r (cond t (state.Secured (link (a .fresh) cover.Nothing half.Nothing)) (state.Open (link (a .fresh) cover.Nothing half.Nothing))) (reply.Number (a .fresh)) []
+
+  nonzero : (u v : ℕ) → (u ≢ 0) ⊎ (v ≢ 0) → eqb u 0 && eqb v 0 ≡ false
+  nonzero u v (inl d) = ap (λ (t : Bool). t && eqb v 0) (ne-eqb u 0 d)
+  nonzero u v (inr d) = ap (λ (t : Bool). eqb u 0 && t) (ne-eqb v 0 d) ∙ and-false (eqb u 0)
+
+  words-read : (b p n k : ℕ) → ((1 ≤ n) × (k ≡ n)) ⊎ ((n ≡ 0) × (p + k ≡ bankOf (layoutOf (a .image)) b .words)) → spanWords (bankOf (layoutOf (a .image)) b) (span b p n) ≡ k
+  words-read b p n k (inl d) = ap (λ (t : Bool). cond t (bankOf (layoutOf (a .image)) b .words - p) n) (ne-eqb n 0 (omega (arith, d .0))) ∙ sym (d .1)
+  words-read b p n k (inr d) =
+      ap (λ (t : Bool). cond t (bankOf (layoutOf (a .image)) b .words - p) n) (eq-eqb n 0 (d .0)) ∙ (let z = d .1 in omega (arith, z))
 
   -- a kill password, and a right one
   no-code : {b : Bool} → b ≡ false → cond b (code.Error 0x00) code.Nothing ≡ code.Nothing
@@ -175,25 +218,34 @@ module _ (a : Air) (r : Register) (idle : Idle (layoutOf (a .image)) (a .image))
   right up low u v i j = ap not (ap₂ _&&_ (eq-eqb up u i) (eq-eqb low v j))
 
   radio : Radio answerOf (layoutOf (a .image)) a r
-  unfolding at Comes
+  unfolding at Comes numbered-so
   radio =
       record {
-        req-rn = λ n. order-done (state.Acknowledged n) n order.ReqRn (rw (eq-eqb n n refl)) refl refl;
+        req-rn = λ n i j says enough.
+            order-done (state.Acknowledged n) n order.ReqRn (rw (eq-eqb n n refl)) refl refl says enough
+            ∙ ap numbered-so (ap₂ _&&_ (eq-eqb (accessWord (layoutOf (a .image)) (a .image) 0) 0 i) (eq-eqb (accessWord (layoutOf (a .image)) (a .image) 1) 0 j));
+        req-rn-open = λ n d says enough.
+            order-done (state.Acknowledged n) n order.ReqRn (rw (eq-eqb n n refl)) refl refl says enough
+            ∙ ap numbered-so (nonzero (accessWord (layoutOf (a .image)) (a .image) 0) (accessWord (layoutOf (a .image)) (a .image) 1) d);
         req-rn-cover = elim [
           | true ↦ λ h c p. secured-done (link h c p) order.ReqRn refl refl (unbroken (link h c p) p) refl
           | false ↦ λ h c p. open-done (link h c p) order.ReqRn refl refl refl (unbroken (link h c p) p) refl
         ];
         read = elim [
-          | true ↦ λ h c b p n e. secured-done (link h c half.Nothing) (order.Read (span b p n)) refl refl refl (read-clear (layoutOf (a .image)) (a .image) true b p n e)
-          | false ↦ λ h c b p n e. open-done (link h c half.Nothing) (order.Read (span b p n)) refl refl refl refl (read-clear (layoutOf (a .image)) (a .image) false b p n e)
+          | true ↦ λ h c b p n k e d.
+              subst (λ (z : ℕ). Does answerOf (layoutOf (a .image)) a r h (order.Read (span b p n)) (state.Secured (link h c half.Nothing)) (state.Secured (link h cover.Nothing half.Nothing)) (reply.Words (bankOf (layoutOf (a .image)) b .at + p) z h) []) (words-read b p n k d)
+              (secured-done (link h c half.Nothing) (order.Read (span b p n)) refl refl refl (read-clear (layoutOf (a .image)) (a .image) true b p n e))
+          | false ↦ λ h c b p n k e d.
+              subst (λ (z : ℕ). Does answerOf (layoutOf (a .image)) a r h (order.Read (span b p n)) (state.Open (link h c half.Nothing)) (state.Open (link h cover.Nothing half.Nothing)) (reply.Words (bankOf (layoutOf (a .image)) b .at + p) z h) []) (words-read b p n k d)
+              (open-done (link h c half.Nothing) (order.Read (span b p n)) refl refl refl refl (read-clear (layoutOf (a .image)) (a .image) false b p n e))
         ];
         write = elim [
           | true ↦ λ h c b p w e. secured-done (link h (cover.Number c) half.Nothing) (order.Write (span b p 1) w) refl refl refl (write-clear (layoutOf (a .image)) (a .image) true b p 1 (bitXor w c) e)
           | false ↦ λ h c b p w e. open-done (link h (cover.Number c) half.Nothing) (order.Write (span b p 1) w) refl refl refl refl (write-clear (layoutOf (a .image)) (a .image) false b p 1 (bitXor w c) e)
         ];
         kill-first = elim [
-          | true ↦ λ h c w e. secured-done (link h (cover.Number c) half.Nothing) (order.Kill w) refl refl refl (no-code e)
-          | false ↦ λ h c w e. open-done (link h (cover.Number c) half.Nothing) (order.Kill w) refl refl refl refl (no-code e)
+          | true ↦ λ h c w e. secured-done (link h (cover.Number c) half.Nothing) (order.Kill w) refl refl refl (no-code (nonzero _ _ e))
+          | false ↦ λ h c w e. open-done (link h (cover.Number c) half.Nothing) (order.Kill w) refl refl refl refl (no-code (nonzero _ _ e))
         ];
         kill-second = elim [
           | true ↦ λ h c w up i j. secured-done (link h (cover.Number c) (half.Kill up)) (order.Kill w) refl refl (right up (bitXor w c) _ _ i j) refl
@@ -269,23 +321,23 @@ module _ (m : List ℕ) (st : State) (r : Register) (idle : Idle (layoutOf m) m)
         ∙ ap (λ (x : ℕ). gives 0 (on st true (cond k (withKilled r) (withUnwritten (someUnwritten y m at x) r))) 0 (length (changeStores (y .work .at) ws)) (after m (changeStores (y .work .at) ws)) []) half
 
   engine : Engine answerOf (layoutOf m) m st r
-  unfolding admitOf askOf releaseOf registerOf written
+  unfolding written
   engine =
       record {
-        admit = λ n. refl;
-        ask = λ e. rw e;
-        release = refl;
-        register = refl;
-        read = engine-read false;
+        read = λ at n room k. engine-read false at n room (not-killed st k);
         write = λ at d n s k size a b c few l.
-            engine-write at d n s size a b c few false (writtenWords (layoutOf m) m at d n) k
+            engine-write at d n s size a b c few false (writtenWords (layoutOf m) m at d n) (not-killed st k)
             (let half : length d / 2 ≡ n = omega (arith, size) in ap (writtenWords (layoutOf m) m at d) half) l;
-        read-killed = engine-read true;
-        write-killed = λ at d n s k size a b c few. engine-write at d n s size a b c few true [] k refl (omega arith);
+        read-killed = λ at n room k. engine-read true at n room (ap isKilled k);
+        write-killed = λ at d n s k size a b c few. engine-write at d n s size a b c few true [] (ap isKilled k) refl (omega arith);
       }
 
+calls-so : (m : List ℕ) (st : State) (r : Register) → Calls answerOf m st r
+unfolding admitOf askOf releaseOf registerOf
+calls-so m st r = record { admit = λ n. refl; ask = λ d. rw (not-linked st d); release = refl; register = refl }
+
 pub demand-2 : Demand2 answerOf
-demand-2 = record { start = started-so; radio = radio-at; engine = engine-at }
+demand-2 = record { start = started-so; radio = radio-at; calls = calls-so; engine = engine-at }
   where
     layout : (y : Layout) (m : List ℕ) → Idle y m → y ≡ layoutOf m
     layout y m i = check-good m y (i .sound) .layout

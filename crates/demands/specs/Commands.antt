@@ -2,7 +2,8 @@
 -- the session and the words stored (RULES D2, 3.9 to 3.22 and 4). Its proof: `demand-2` in proofs/Commands. Assumes nothing.
 use Prim.Native.Nat.{ℕ, _+_, _-_, _*_, _≤_, _<_}
 use mathlib.Core.Path.{_≡_}
-use mathlib.Core.Bool.{Bool, true, false, cond}
+use mathlib.Core.Logic.{_≢_, _⊎_}
+use mathlib.Core.Bool.{Bool, true, false, cond, _||_}
 use mathlib.Core.List.{List, [], _∷_}
 use lib.Bits.{bitXor, bitOr}
 use lib.Dec.{eqb}
@@ -21,9 +22,9 @@ use Rattle.frames.specs.declared.Heard.the-variants as heard
 use Rattle.frames.specs.Frames.{span, heardOf, checksumRight}
 use Rattle.replies.specs.declared.Reply.{Reply}
 use Rattle.replies.specs.declared.Reply.the-variants as reply
-use Rattle.replies.specs.Replies.{replyBits, replyLength, replyBytes}
+use Rattle.replies.specs.Replies.{replyBits}
 use Rattle.replies.specs.Pack.{packed}
-use Rattle.rights.specs.Rights.{bankOf, spanWords, lockedTo}
+use Rattle.rights.specs.Rights.{bankOf, lockedTo}
 use Rattle.stores.specs.Stores.{changeStores, powerStores}
 use Rattle.states.specs.declared.Cover.{Cover}
 use Rattle.states.specs.declared.Cover.the-variants as cover
@@ -36,10 +37,10 @@ use Rattle.states.specs.declared.State.the-variants as state
 use Rattle.tag.specs.declared.Session.{Session}
 use Rattle.tag.specs.Session.{offSession, on, clear}
 use Rattle.tag.specs.Result.{Result, leaves, gives}
-use Rattle.states.specs.Commands.{accessWord, killWord, zeroKill, zeroAccess, isKilled, isLinked}
+use Rattle.states.specs.Commands.{accessWord, killWord}
 use Rattle.tag.specs.Power.{poweredTo}
 use Rattle.tag.specs.Table.{answered}
-use Rattle.tag.specs.Port.{numberIn, writtenWords, someUnwritten, withUnwritten, withKilled}
+use Rattle.tag.specs.Port.{numberIn, writtenWords, someUnwritten}
 use Rattle.demands.specs.Facts.{Readable, Writable, Lockable, PermaLockable}
 use Rattle.demands.specs.Calls.{powerUp, frame, Program, asked, Idle}
 use Rattle.demands.specs.Calls as call
@@ -67,7 +68,7 @@ done y a r st rp ws =
     record {
       number = 0;
       session = on st false r;
-      reply = replyLength rp;
+      reply = length (replyBits (a .image) rp);
       stores = length stores;
       value = 0;
       image = after (a .image) stores;
@@ -80,7 +81,7 @@ hears A a s = asked A s (a .image) (frame (a .frame) (a .bits) (a .fresh) (a .ro
 
 -- room and power enough for the reply and the words
 abbrev pub Enough : Layout → Air → Reply → List Store → Type 0
-Enough y a rp ws = (replyBytes rp ≤ length (a .room)) × (length (changeStores (y .work .at) ws) ≤ a .power)
+Enough y a rp ws = (length (replyBits (a .image) rp) ≤ 8 * length (a .room)) × (length (changeStores (y .work .at) ws) ≤ a .power)
 
 -- the frame is the order o with the number n, and its CRC-16 is right
 pub record Says (a : Air) (n : ℕ) (o : Order) : Type 0 where
@@ -96,22 +97,25 @@ abbrev pub wordsTo : ℕ → List ℕ → ℕ → ℕ → List Store
 wordsTo o f p n = below (λ j. store (o + j) (fieldAt f (p + 16 * j) 16)) n
 
 pub record Radio (A : Program) (y : Layout) (a : Air) (r : Register) : Type 0 where
-  -- Req_RN with the admission number: the fresh word is the handle, the state Open if there is an access password, else Secured
-  pub req-rn : (n : ℕ)
-      → Does A y a r n order.ReqRn (state.Acknowledged n) (linked (zeroAccess y (a .image)) (link (a .fresh) cover.Nothing half.Nothing)) (reply.Number (a .fresh)) []
+  -- Req_RN with the admission number: the fresh word is the handle, the state Open if the access password is nonzero, else Secured
+  pub req-rn : (n : ℕ) → accessWord y (a .image) 0 ≡ 0 → accessWord y (a .image) 1 ≡ 0
+      → Does A y a r n order.ReqRn (state.Acknowledged n) (state.Secured (link (a .fresh) cover.Nothing half.Nothing)) (reply.Number (a .fresh)) []
+  pub req-rn-open : (n : ℕ) → (accessWord y (a .image) 0 ≢ 0) ⊎ (accessWord y (a .image) 1 ≢ 0)
+      → Does A y a r n order.ReqRn (state.Acknowledged n) (state.Open (link (a .fresh) cover.Nothing half.Nothing)) (reply.Number (a .fresh)) []
   -- Req_RN with the handle: the fresh word is the cover number
   pub req-rn-cover : (q : Bool) (h : ℕ) (c : Cover) (p : Half)
       → Does A y a r h order.ReqRn (linked q (link h c p)) (linked q (link h (cover.Number (a .fresh)) p)) (reply.Number (a .fresh)) []
-  -- Read: the words of the span, where nothing is against it
-  pub read : (q : Bool) (h : ℕ) (c : Cover) (b p n : ℕ) → Readable y (a .image) q b p n
+  -- Read: k words, where nothing is against it: those that it asks for, or with WordCount 0 all to the bank's end
+  pub read : (q : Bool) (h : ℕ) (c : Cover) (b p n k : ℕ) → Readable y (a .image) q b p n
+      → ((1 ≤ n) × (k ≡ n)) ⊎ ((n ≡ 0) × (p + k ≡ bankOf y b .words))
       → Does A y a r h (order.Read (span b p n)) (linked q (link h c half.Nothing)) (linked q (link h cover.Nothing half.Nothing))
-      (reply.Words (bankOf y b .at + p) (spanWords (bankOf y b) (span b p n)) h) []
+      (reply.Words (bankOf y b .at + p) k h) []
   -- Write: the word without its cover, which is used up
   pub write : (q : Bool) (h c : ℕ) (b p w : ℕ) → Writable y (a .image) q b p 1 (bitXor w c)
       → Does A y a r h (order.Write (span b p 1) w) (linked q (link h (cover.Number c) half.Nothing)) (linked q (link h cover.Nothing half.Nothing))
       (reply.Success h) (store (bankOf y b .at + p) (bitXor w c) ∷ [])
-  -- Kill, the first half: it waits, without its cover; there is a kill password
-  pub kill-first : (q : Bool) (h c w : ℕ) → zeroKill y (a .image) ≡ false
+  -- Kill, the first half: it waits, uncovered, where the kill password is nonzero
+  pub kill-first : (q : Bool) (h c w : ℕ) → (killWord y (a .image) 0 ≢ 0) ⊎ (killWord y (a .image) 1 ≢ 0)
       → Does A y a r h (order.Kill w) (linked q (link h (cover.Number c) half.Nothing)) (linked q (link h cover.Nothing (half.Kill (bitXor w c)))) (reply.Number h) []
   -- Kill, the second: where both are the password's, killed is stored as 1
   pub kill-second : (q : Bool) (h c w up : ℕ) → up ≡ killWord y (a .image) 0 → bitXor w c ≡ killWord y (a .image) 1
@@ -144,29 +148,31 @@ pub record Radio (A : Program) (y : Layout) (a : Air) (r : Register) : Type 0 wh
       (reply.Success h)
       (below (λ j. let i = y .perma .at + p + j in store i (bitOr (wordAt (a .image) i) (fieldAt (a .frame) (at + 16 * j) 16))) n)
   -- NAK: Arbitrate, and no reply
-  pub nak : (st : State) → isKilled st ≡ false → heardOf (a .frame) (a .bits) ≡ heard.Nak → hears A a (on st false r) ≡ done y a r state.Arbitrate reply.Silence []
+  pub nak : (st : State) → st ≢ state.Killed → heardOf (a .frame) (a .bits) ≡ heard.Nak → hears A a (on st false r) ≡ done y a r state.Arbitrate reply.Silence []
 
--- the gate's admission, and the port with the image m
-pub record Engine (A : Program) (y : Layout) (m : List ℕ) (st : State) (r : Register) : Type 0 where
-  -- Arbitrate, with the port free
+-- calls without an image, of a tag with any: the gate's admission in Arbitrate with the port free; the port asked for outside Open and Secured, given back, and
+-- its register as a number, cleared
+pub record Calls (A : Program) (m : List ℕ) (st : State) (r : Register) : Type 0 where
   pub admit : (n : ℕ) → asked A (on state.Arbitrate false r) m (call.admit n) ≡ answered 0 (on (state.Acknowledged n) false r)
-  pub ask : isLinked st ≡ false → asked A (on st false r) m call.ask ≡ answered 0 (on st true r)
+  pub ask : ((q : Bool) (k : Link) → st ≢ linked q k) → asked A (on st false r) m call.ask ≡ answered 0 (on st true r)
   pub release : asked A (on st true r) m call.release ≡ answered 0 (on st false r)
-  -- the register as a number, and cleared
   pub register : asked A (on st true r) m call.register
       ≡ record { number = 0; session = on st true clear; reply = 0; stores = 0; value = numberIn r; image = []; room = [] }
+
+-- transfers through the port, with the image m
+pub record Engine (A : Program) (y : Layout) (m : List ℕ) (st : State) (r : Register) : Type 0 where
   -- the words of USER, high byte first
-  pub read : (at n : ℕ) (room : List ℕ) → isKilled st ≡ false → 1 ≤ n → n ≤ 255 → at + n ≤ y .user .words → 2 * n ≤ length room
+  pub read : (at n : ℕ) (room : List ℕ) → st ≢ state.Killed → 1 ≤ n → n ≤ 255 → at + n ≤ y .user .words → 2 * n ≤ length room
       → asked A (on st true r) m (call.read at n room) ≡ gives 0 (on st true r) (16 * n) 0 m (packed (wordsBits m (y .user .at + at) n) room)
   -- the writable words, as one change; bit 1 where some word wasn't written
-  pub write : (at : ℕ) (d : List ℕ) (n s : ℕ) → isKilled st ≡ false → length d ≡ 2 * n → 1 ≤ n → n ≤ 255 → at + n ≤ y .user .words → n ≤ pairsIn y
+  pub write : (at : ℕ) (d : List ℕ) (n s : ℕ) → st ≢ state.Killed → length d ≡ 2 * n → 1 ≤ n → n ≤ 255 → at + n ≤ y .user .words → n ≤ pairsIn y
       → let stores = changeStores (y .work .at) (writtenWords y m at d n) in length stores ≤ s
-      → asked A (on st true r) m (call.write at d s) ≡ gives 0 (on st true (withUnwritten (someUnwritten y m at n) r)) 0 (length stores) (after m stores) []
+      → asked A (on st true r) m (call.write at d s) ≡ gives 0 (on st true (record { unwritten = r .unwritten || someUnwritten y m at n; killed = r .killed })) 0 (length stores) (after m stores) []
   -- when Killed: zeros, and nothing stored; bit 0 is set
-  pub read-killed : (at n : ℕ) (room : List ℕ) → isKilled st ≡ true → 1 ≤ n → n ≤ 255 → at + n ≤ y .user .words → 2 * n ≤ length room
-      → asked A (on st true r) m (call.read at n room) ≡ gives 0 (on st true (withKilled r)) (16 * n) 0 m (packed (replicate (16 * n) 0) room)
-  pub write-killed : (at : ℕ) (d : List ℕ) (n s : ℕ) → isKilled st ≡ true → length d ≡ 2 * n → 1 ≤ n → n ≤ 255 → at + n ≤ y .user .words → n ≤ pairsIn y
-      → asked A (on st true r) m (call.write at d s) ≡ leaves 0 (on st true (withKilled r)) m []
+  pub read-killed : (at n : ℕ) (room : List ℕ) → st ≡ state.Killed → 1 ≤ n → n ≤ 255 → at + n ≤ y .user .words → 2 * n ≤ length room
+      → asked A (on st true r) m (call.read at n room) ≡ gives 0 (on st true (record { unwritten = r .unwritten; killed = true })) (16 * n) 0 m (packed (replicate (16 * n) 0) room)
+  pub write-killed : (at : ℕ) (d : List ℕ) (n s : ℕ) → st ≡ state.Killed → length d ≡ 2 * n → 1 ≤ n → n ≤ 255 → at + n ≤ y .user .words → n ≤ pairsIn y
+      → asked A (on st true r) m (call.write at d s) ≡ leaves 0 (on st true (record { unwritten = r .unwritten; killed = true })) m []
 
 -- power-up of a good image, whatever is pending; n is the image afterwards
 pub record Start (A : Program) (y : Layout) (m n : List ℕ) : Type 0 where
@@ -182,4 +188,5 @@ pub record Start (A : Program) (y : Layout) (m n : List ℕ) : Type 0 where
 pub record Demand2 (A : Program) : Type 0 where
   pub start : (y : Layout) (m : List ℕ) → checkOf m ≡ good y → Start A y m (after m (powerStores y m))
   pub radio : (y : Layout) (a : Air) (r : Register) → Idle y (a .image) → Radio A y a r
+  pub calls : (m : List ℕ) (st : State) (r : Register) → Calls A m st r
   pub engine : (y : Layout) (m : List ℕ) (st : State) (r : Register) → Idle y m → Engine A y m st r

@@ -33,7 +33,7 @@ use Rattle.stores.specs.Worked.{worked-bytes}
 use Rattle.tag.specs.declared.Answer.the-variants as answer
 use Rattle.states.specs.declared.State.the-variants as state
 use Rattle.tag.specs.declared.Outcome.{Outcome}
-use Rattle.states.specs.Commands.{zeroKill}
+use Rattle.states.specs.Commands.{killWord}
 use Rattle.tag.specs.Power.{started, powerUpOf}
 use Rattle.tag.specs.Table.{frameOf}
 use Rattle.tag.specs.Port.{writeOf}
@@ -140,7 +140,7 @@ pub record Met : Type 0 where
   pub write : Comes write3 66 0x1234 (order.Write (span 3 3 1) 0xF197) (reply.Success 0x1234) (store 31 0xABCD ∷ [])
   pub write-right : Writable workedLayout worked false 3 3 1 0xABCD
   pub kill-first : Comes kill1 59 0x1234 (order.Kill 0x1113) (reply.Number 0x1234) []
-  pub kill-password : zeroKill workedLayout worked ≡ false
+  pub kill-password : killWord workedLayout worked 0 ≢ 0
   pub kill-second : Comes kill2 59 0x1234 (order.Kill 0x1616) (reply.Success 0x1234) (store 17 1 ∷ [])
   pub lock : Comes lock1 60 0x1234 (order.Lock 0x020 0x020) (reply.Success 0x1234) (store 16 0x020 ∷ [])
   pub lock-right : Lockable workedLayout worked 0x020 0x020
@@ -176,7 +176,7 @@ met =
       write = (record { heard = refl; right = refl }, (lit≤ tt, lit≤ tt));
       write-right = writable 3 1 0xABCD (lit< tt) (lit≤ tt) refl refl (lit≤ tt);
       kill-first = (record { heard = refl; right = refl }, (lit≤ tt, lit≤ tt));
-      kill-password = refl;
+      kill-password = λ e. omega (arith, e);
       kill-second = (record { heard = refl; right = refl }, (lit≤ tt, lit≤ tt));
       lock = (record { heard = refl; right = refl }, (lit≤ tt, lit≤ tt));
       lock-right = lockable refl;
