@@ -30,8 +30,7 @@ use Rattle.tag.specs.Power.{powerUpOf}
 use Rattle.tag.specs.Table.{Input, input, liveOf, broken, comes, effect, isError, replyOr, replyOf, fits, storesOf, everything, cut, replied, rows, frameOf}
 use Rattle.demands.specs.Calls.{Tag, answerOf}
 use Rattle.demands.specs.Demands.{Storing, told}
-use Rattle.demands.specs.Commands.{Air, hears}
-use Rattle.demands.specs.Refusals.{stays, inRoom, Short}
+use Rattle.demands.specs.Refusals.{Short}
 use Rattle.demands.proofs.Codes.{and-false}
 use Rattle.demands.proofs.Rows.{Rows, None, Each, first-or, none-first, first-at, heard-same, Refused, Acting, wordsOf, acts}
 use Rattle.demands.proofs.Cuts.{power-fails, power-made}
@@ -44,27 +43,27 @@ never : (n : ℕ) → (n ≡ 0 → ⊥) → (n ≡ 10 → ⊥) → (n ≡ 0) ⊎
 never n a b (inl e) = a e
 never n a b (inr e) = b e
 
-module _ (v : Session) (m f : List ℕ) (bits fresh : ℕ) (power : ℕ) where
-  at : List ℕ → Input
-  at room = input v m f bits fresh room power
+module _ (v : Session) (m f : List ℕ) (bits fresh : ℕ) where
+  at : List ℕ → ℕ → Input
+  at room power = input v m f bits fresh room power
 
   -- rows 1 to 12, and what follows them
-  before : List ℕ → Rows
-  before room = take 9 (rows (at room))
+  before : List ℕ → ℕ → Rows
+  before room power = take 9 (rows (at room power))
 
-  done : List ℕ → Result
-  done room = replied (at room) 0 (effect (at room) .state) (storesOf (at room))
+  done : List ℕ → ℕ → Result
+  done room power = replied (at room power) 0 (effect (at room power) .state) (storesOf (at room power))
 
-  behind : List ℕ → Result
-  behind room = first (drop 9 (rows (at room))) (done room)
+  behind : List ℕ → ℕ → Result
+  behind room power = first (drop 9 (rows (at room power))) (done room power)
 
-  split : (room : List ℕ) → frameOf (at room) ≡ first (before room) (behind room)
+  split : (room : List ℕ) (power : ℕ) → frameOf (at room power) ≡ first (before room power) (behind room power)
   unfolding frameOf at before behind done
-  split room = refl
+  split room power = refl
 
-  silent : (room : List ℕ) → Each (λ r. Replies r → ⊥) (before room)
+  silent : (room : List ℕ) (power : ℕ) → Each (λ r. Replies r → ⊥) (before room power)
   unfolding at before
-  silent room = (
+  silent room power = (
     λ e. never 1 (omega arith) (omega arith),
     (
       λ e. never 2 (omega arith) (omega arith),
@@ -85,48 +84,48 @@ module _ (v : Session) (m f : List ℕ) (bits fresh : ℕ) (power : ℕ) where
   )
 
   -- what a reply behind them is
-  reply-behind : (room : List ℕ) → Replies (behind room) → behind room .reply ≡ replyLength (replyOf (at room))
+  reply-behind : (room : List ℕ) (power : ℕ) → Replies (behind room power) → behind room power .reply ≡ replyLength (replyOf (at room power))
   unfolding at behind done
-  reply-behind room h =
-      go (isError (effect (at room) .code) && fits (replyOf (at room)) room) (fits (replyOf (at room)) room) (ltb power (length (storesOf (at room)))) h
+  reply-behind room power h =
+      go (isError (effect (at room power) .code) && fits (replyOf (at room power)) room) (fits (replyOf (at room power)) room) (ltb power (length (storesOf (at room power)))) h
     where
       rest : Bool → Bool → Bool → Result
       rest a b c =
-          cond a (replied (at room) 10 (used (liveOf (v .power) .state)) [])
-          (cond (not b) (everything (at room) 4) (cond c (cut (at room)) (done room)))
+          cond a (replied (at room power) 10 (used (liveOf (v .power) .state)) [])
+          (cond (not b) (everything (at room power) 4) (cond c (cut (at room power)) (done room power)))
 
-      go : (a b c : Bool) → Replies (rest a b c) → rest a b c .reply ≡ replyLength (replyOf (at room))
+      go : (a b c : Bool) → Replies (rest a b c) → rest a b c .reply ≡ replyLength (replyOf (at room power))
       go true b c h = refl
       go false true true h = absurd (never 11 (omega arith) (omega arith) h)
       go false true false h = refl
       go false false c h = absurd (never 4 (omega arith) (omega arith) h)
 
-  -- the room matters to nothing before, and not to the reply
-  module _ (a b : List ℕ) where
-    same-broken : (x : Heard) → broken (at a) x ≡ broken (at b) x
+  -- room and power matter to nothing before, and not to the reply
+  module _ (a b : List ℕ) (p q : ℕ) where
+    same-broken : (x : Heard) → broken (at a p) x ≡ broken (at b q) x
     unfolding at
-    same-broken = heard-same (broken (at a)) (broken (at b)) refl refl (λ c. refl)
+    same-broken = heard-same (broken (at a p)) (broken (at b q)) refl refl (λ c. refl)
 
-    same-comes : (x : Heard) → comes (at a) x ≡ comes (at b) x
+    same-comes : (x : Heard) → comes (at a p) x ≡ comes (at b q) x
     unfolding at
-    same-comes = heard-same (comes (at a)) (comes (at b)) refl refl (λ c. refl)
+    same-comes = heard-same (comes (at a p)) (comes (at b q)) refl refl (λ c. refl)
 
-    same-reply : replyOf (at a) ≡ replyOf (at b)
+    same-reply : replyOf (at a p) ≡ replyOf (at b q)
     unfolding at
     same-reply = ap (λ (x : Effect). replyOr (x .code) (linkOf (liveOf (v .power) .state) .handle) (x .reply)) (same-comes (heardOf f bits))
 
-    tight : Replies (frameOf (at b)) → 8 * length a < frameOf (at b) .reply → frameOf (at a) ≡ everything (at a) 4
+    tight : Replies (frameOf (at b q)) → 8 * length a < frameOf (at b q) .reply → frameOf (at a p) ≡ everything (at a p) 4
     unfolding frameOf at before behind done
-    tight h l = go (first-or (λ r. Replies r → ⊥) (before b) (behind b) (silent b))
+    tight h l = go (first-or (λ r. Replies r → ⊥) (before b q) (behind b q) (silent b q))
       where
-        go : (Replies (first (before b) (behind b)) → ⊥) ⊎ None (before b) → frameOf (at a) ≡ everything (at a) 4
-        go (inl n) = absurd (n (subst Replies (split b) h))
+        go : (Replies (first (before b q) (behind b q)) → ⊥) ⊎ None (before b q) → frameOf (at a p) ≡ everything (at a p) 4
+        go (inl n) = absurd (n (subst Replies (split b q) h))
         go (inr n) =
-            let is : frameOf (at b) ≡ behind b = split b ∙ none-first (before b) (behind b) n in
-            let long : 8 * length a < replyLength (replyOf (at b)) = rw (ap (λ (r : Result). r .reply) is ∙ reply-behind b (subst Replies is h)) at l in
-            let small : length a < replyBytes (replyOf (at a)) = subst (λ (r : Reply). length a < replyBytes r) (sym same-reply) (omega (arith, long)) in
-            let no : fits (replyOf (at a)) a ≡ false = ap not (lt-ltb (length a) (replyBytes (replyOf (at a))) small) in
-            first-at 10 (rows (at a)) (done a) (
+            let is : frameOf (at b q) ≡ behind b q = split b q ∙ none-first (before b q) (behind b q) n in
+            let long : 8 * length a < replyLength (replyOf (at b q)) = rw (ap (λ (r : Result). r .reply) is ∙ reply-behind b q (subst Replies is h)) at l in
+            let small : length a < replyBytes (replyOf (at a p)) = subst (λ (r : Reply). length a < replyBytes r) (sym same-reply) (omega (arith, long)) in
+            let no : fits (replyOf (at a p)) a ≡ false = ap not (lt-ltb (length a) (replyBytes (replyOf (at a p))) small) in
+            first-at 10 (rows (at a p)) (done a p) (
               n .0,
               (
                 n .1 .0,
@@ -144,7 +143,7 @@ module _ (v : Session) (m f : List ℕ) (bits fresh : ℕ) (power : ℕ) where
                             n .1 .1 .1 .1 .1 .1 .1 .0,
                             (
                               same-broken (heardOf f bits) ∙ n .1 .1 .1 .1 .1 .1 .1 .1 .0,
-                              (ap (λ (t : Bool). isError (effect (at a) .code) && t) no ∙ and-false (isError (effect (at a) .code)), ap not no),
+                              (ap (λ (t : Bool). isError (effect (at a p) .code) && t) no ∙ and-false (isError (effect (at a p) .code)), ap not no),
                             ),
                           ),
                         ),
@@ -159,7 +158,7 @@ pub short : Short answerOf
 unfolding at
 short =
     record {
-      room = λ a s other h l. tight s (a .image) (a .frame) (a .bits) (a .fresh) (a .power) (a .room) other h l;
+      room = λ a s other enough h l. tight s (a .image) (a .frame) (a .bits) (a .fresh) (a .room) other (a .power) enough h l;
       power = λ y t c s enough e z l. power y t c s enough e z l;
       start = λ y m v s enough e z l.
           (let g = check-good m y e in power-fails y m g s (subst (λ (k : ℕ). s < k) (power-made y m g enough z) l));

@@ -76,7 +76,7 @@ Needs q c (order.BlockErase s) = 1 ≤ s .count
 Needs q c (order.ReadPermalock rfu s) = (q ≡ true) × (rfu ≡ 0) × (1 ≤ s .count)
 Needs q c (order.Permalock rfu s p) = (q ≡ true) × (rfu ≡ 0) × (1 ≤ s .count)
 
--- 3.15: between the halves of a password any command is another but Req_RN and the one that brings the second half
+-- 3.15: between the halves of a password any command is another but Req_RN and the one that brings the second half (NAK is no order)
 abbrev pub Other : Half → Order → Type 0
 Other half.Nothing o = ⊥
 Other (half.Access up) o = (o ≢ order.ReqRn) × ((h : ℕ) → o ≢ order.Access h)
@@ -96,20 +96,20 @@ Brings a c (order.BlockErase s) b p n pc = (s ≡ span b p n) × (1 ≤ n) × (p
 Brings a c (order.ReadPermalock rfu s) b p n pc = ⊥
 Brings a c (order.Permalock rfu s at) b p n pc = ⊥
 
--- an image, or a session, that no frame is heard with
+-- 1, 2, 3, 5 and 6: an image, or a session, that no frame is heard with
 pub record Unready (A : Program) (a : Air) : Type 0 where
   pub bad-image : (s : Session) (n : ℕ) → checkOf (a .image) ≡ refused n → hears A a s ≡ stays n a s
   pub off : (y : Layout) → checkOf (a .image) ≡ good y → hears A a offSession ≡ stays 5 a offSession
   pub pends : (y : Layout) (s : Session) → checkOf (a .image) ≡ good y → countIn y (a .image) ≢ 0 → hears A a s ≡ stays 5 a s
   pub held : (y : Layout) (st : State) (r : Register) → Idle y (a .image) → hears A a (on st true r) ≡ stays 6 a (on st true r)
 
--- a frame that is none, or has a wrong CRC-16
+-- 7 and 8: a frame that is none, or has a wrong CRC-16
 pub record Unheard (A : Program) (a : Air) (st : State) (r : Register) : Type 0 where
   pub malformed : heardOf (a .frame) (a .bits) ≡ heard.Malformed → hears A a (on st false r) ≡ stays 7 a (on st false r)
   pub checksum : (c : Command) → heardOf (a .frame) (a .bits) ≡ heard.Said c → checksumRight (a .frame) (a .bits) ≡ false
       → hears A a (on st false r) ≡ stays 8 a (on st false r)
 
--- a command that the session is not in a state for
+-- 9: a command that the session is not in a state for
 pub record Wrong (A : Program) (a : Air) (r : Register) : Type 0 where
   pub arbitrate : (n : ℕ) (o : Order) → Says a n o → hears A a (on state.Arbitrate false r) ≡ stays 9 a (on state.Arbitrate false r)
   pub killed : (n : ℕ) (o : Order) → Says a n o → hears A a (on state.Killed false r) ≡ stays 9 a (on state.Killed false r)
@@ -121,7 +121,7 @@ pub record Wrong (A : Program) (a : Air) (r : Register) : Type 0 where
   pub handle : (q : Bool) (h : ℕ) (c : Cover) (p : Half) (n : ℕ) (o : Order) → Says a n o → (n ≢ h) ⊎ (Needs q c o → ⊥)
       → hears A a (on (linked q (link h c p)) false r) ≡ stays 9 a (on (linked q (link h c p)) false r)
 
--- a password that is wrong, or whose halves are broken; c is the cover number
+-- 12: a password that is wrong, or whose halves are broken; c is the cover number
 pub record Dropped (A : Program) (y : Layout) (a : Air) (r : Register) : Type 0 where
   pub access : (q : Bool) (h c up w : ℕ) → Says a h (order.Access w)
       → (up ≢ accessWord y (a .image) 0) ⊎ (bitXor w c ≢ accessWord y (a .image) 1)
@@ -132,7 +132,7 @@ pub record Dropped (A : Program) (y : Layout) (a : Air) (r : Register) : Type 0 
   pub between : (q : Bool) (h : ℕ) (c : Cover) (p : Half) (o : Order) → Says a h o → Needs q c o → Other p o
       → hears A a (on (linked q (link h c p)) false r) ≡ drops a r
 
--- an error code, no half waiting and room for the reply
+-- 10: an error code, no half waiting and room for the reply of 41 bits, 6 bytes
 pub record Errors (A : Program) (y : Layout) (a : Air) (r : Register) (q : Bool) (h : ℕ) (c : Cover) : Type 0 where
   -- Read
   pub read-past : (b p n : ℕ) → Says a h (order.Read (span b p n)) → Past (bankOf y b .words) p n
@@ -156,7 +156,7 @@ pub record Errors (A : Program) (y : Layout) (a : Air) (r : Register) (q : Bool)
   pub kill-zero : (k w : ℕ) → c ≡ cover.Number k → Says a h (order.Kill w) → killWord y (a .image) 0 ≡ 0 → killWord y (a .image) 1 ≡ 0
       → hears A a (on (linked q (link h c half.Nothing)) false r) ≡ errs a r q h half.Nothing 0x00
 
--- the same for Lock and BlockPermalock, which work in Secured
+-- 10 for Lock and BlockPermalock, which work in Secured
 pub record Locks (A : Program) (y : Layout) (a : Air) (r : Register) (h : ℕ) (c : Cover) : Type 0 where
   -- Lock: a permalocked pair would lose its permalock or change its pwd bit
   pub lock-pair : (mask action k : ℕ) → Says a h (order.Lock mask action) → k < 5
@@ -182,7 +182,7 @@ pub record Locks (A : Program) (y : Layout) (a : Air) (r : Register) (h : ℕ) (
       → pwdBit (lockWord y (a .image)) 4 ≡ 0 → permaBit (lockWord y (a .image)) 4 ≡ 1
       → hears A a (on (state.Secured (link h c half.Nothing)) false r) ≡ errs a r true h half.Nothing 0x04
 
--- calls without an image, of a tag with any: their order starts at 5
+-- 5, 6 and 9 of calls without an image, of a tag with any
 pub record Alone (A : Program) (m : List ℕ) : Type 0 where
   pub admit-off : (n : ℕ) → asked A offSession m (admit n) ≡ leaves 5 offSession [] []
   pub admit-held : (st : State) (r : Register) (n : ℕ) → asked A (on st true r) m (admit n) ≡ leaves 6 (on st true r) [] []
@@ -216,13 +216,13 @@ pub record Port (A : Program) (y : Layout) (m : List ℕ) (st : State) (r : Regi
   pub write-count : (at n : ℕ) (d : List ℕ) (s : ℕ) → length d ≡ 2 * n → BadCount y at n ⊎ (pairsIn y < n)
       → asked A (on st true r) m (write at d s) ≡ leaves 13 (on st true r) m []
 
--- 4: a frame that is answered with a reply, 0 or 10, where the room is another, in a room that the reply doesn't fit; 11: a frame or an SPI write that is done
--- with `enough`, and a power-up, with power for fewer stores than it makes
-abbrev pub inRoom : List ℕ → Air → Air
-inRoom room a = record { image = a .image; frame = a .frame; bits = a .bits; fresh = a .fresh; room = room; power = a .power }
+-- 4: a frame that is answered with a reply, 0 or 10, in another room and with another power, in a room that the reply doesn't fit; 11: a frame or an SPI write
+-- that is done with `enough`, and a power-up, with power for fewer stores than it makes
+abbrev pub given : List ℕ → ℕ → Air → Air
+given room power a = record { image = a .image; frame = a .frame; bits = a .bits; fresh = a .fresh; room = room; power = power }
 
 pub record Short (A : Program) : Type 0 where
-  pub room : (a : Air) (s : Session) (other : List ℕ) → let r = hears A (inRoom other a) s in
+  pub room : (a : Air) (s : Session) (other : List ℕ) (enough : ℕ) → let r = hears A (given other enough a) s in
       (r .number ≡ 0) ⊎ (r .number ≡ 10) → 8 * length (a .room) < r .reply → hears A a s ≡ stays 4 a s
   pub power : (y : Layout) (t : Tag) (c : Storing) (s enough : ℕ) → checkOf (t .image) ≡ good y → let r = A t (told c enough) in
       r .number ≡ 0 → s < r .stores → A t (told c s) .number ≡ 11
