@@ -7,14 +7,18 @@ use mathlib.Core.List.{List, [], _∷_, _++_}
 use native.Mathlib.Omega.{arith}
 use lib.Dec.{eqb, leb, ltb, lit≤}
 use lib.ListN.{length, take}
-use borrow.Author.Tests.{eqb-true, leb-true, ltb-true, eq-eqb, ne-eqb}
+use borrow.Author.Tests.{eqb-true, leb-true, ltb-true, eq-eqb, ne-eqb, lt-ltb, le-ltb}
 use Rattle.bits.specs.Words.{after}
 use Rattle.bits.specs.Bits.{wordsBits}
 use Rattle.bits.proofs.Below.{and-right, or-cases}
-use Rattle.image.specs.Layout.{layoutOf, within}
+use Rattle.image.specs.Layout.{layoutOf, within, headerGood}
+use Rattle.image.specs.Content.{contentGood}
+use Rattle.image.specs.Rules.{Header, Good}
+use Rattle.image.proofs.Rules.{header-both}
+use Rattle.image.proofs.Answers.{check-good, good-check}
 use Rattle.image.specs.declared.Fit.{Fit}
 use Rattle.image.specs.declared.Fit.the-variants as fit
-use Rattle.image.specs.Check.{Checked, refused, good, meaning, imageRows}
+use Rattle.image.specs.Check.{checkOf, Checked, refused, good, meaning, imageRows}
 use Rattle.frames.specs.declared.Heard.{Heard}
 use Rattle.frames.specs.declared.Heard.the-variants as heard
 use Rattle.frames.specs.Frames.{heardOf}
@@ -36,7 +40,7 @@ use Rattle.tag.specs.Power.{poweredTo, firstIn, started, powerUpOf}
 use Rattle.tag.specs.Table.{Input, input, scene, comes, stateOf, liveOf, isOff, isError, effect, replyOr, replyOf, fits, storesOf, movedTo, dropped, replied, rows, frameOf, answered, admitOf}
 use Rattle.tag.specs.Port.{heldTo, told, askOf, releaseOf, registerOf, badCount, badData, readBits, portWords, someUnwritten, registerTo, withKilled, withUnwritten, refusals, readOf, writeOf}
 use Rattle.demands.specs.Calls.{Call, powerUp, admit, frame, ask, release, register, read, write, Tag, answerOf, sessionIn, imageIn, roomIn, powerIn, storesIn, valueIn}
-use Rattle.demands.specs.Demands.{refuses, AnErrorCode, Tabled, Demand1}
+use Rattle.demands.specs.Demands.{refuses, AnErrorCode, Tabled, Checks, Demand1}
 use Rattle.demands.proofs.Rows.{Each, first-each}
 use Rattle.demands.proofs.Codes.{Among, effect-among}
 
@@ -71,7 +75,7 @@ module _ (t : Tag) (c : Call) where
       other : {k : ℕ} → n ≡ k → refuses k ≡ false → ⊥
       other q f = false≢true (sym f ∙ sym (ap refuses q) ∙ e)
 
-  zero-answer : (r : Result) → r .number ≡ 0 → (r .reply ≡ 0 → r .room ≡ roomIn c) → r .stores ≡ length (storesIn t c) → r .value ≡ valueIn t c → Tabled t c r
+  zero-answer : (r : Result) → r .number ≡ 0 → (r .reply ≡ 0 → r .room ≡ roomIn c) → (r .stores ≡ length (storesIn t c)) × (r .image ≡ after (imageIn t c) (storesIn t c)) → r .value ≡ valueIn t c → Tabled t c r
   zero-answer r z s k v =
       record {
         listed = omega (arith, z);
@@ -200,7 +204,7 @@ module _ (v : Session) (m f : List ℕ) (bits fresh : ℕ) (room : List ℕ) (s 
   unfolding frameOf tag call handed
   frame-tabled =
       first-each (Tabled tag call) (rows handed) (replied handed 0 (effect handed .state) (storesOf handed)) frame-rows
-      (zero-answer tag call (replied handed 0 (effect handed .state) (storesOf handed)) refl (silence m room (replyOf handed)) refl refl)
+      (zero-answer tag call (replied handed 0 (effect handed .state) (storesOf handed)) refl (silence m room (replyOf handed)) (refl, refl) refl)
 
 -- the rows before a transfer's own
 module _ (v : Session) (m : List ℕ) where
@@ -213,7 +217,7 @@ module _ (v : Session) (m : List ℕ) where
       let c = read at count room in
       first-each (Tabled tag-of c) (refusals v m room (badCount (layoutOf m) at count) ++ ((leaves 4 v m room, ltb (length room) (2 * count)) ∷ [])) _
       (λ e. refusal tag-of c 1 refl, (λ e. refusal tag-of c 2 refl, (λ e. refusal tag-of c 3 refl, (λ e. refusal tag-of c 5 refl, (λ e. refusal tag-of c 6 refl, (λ e. refusal tag-of c 13 refl, (λ e. refusal tag-of c 4 refl, tt)))))))
-      (zero-answer tag-of c _ refl (λ q. no-words (isKilled (liveOf (v .power) .state)) count (omega (arith, q))) refl refl)
+      (zero-answer tag-of c _ refl (λ q. no-words (isKilled (liveOf (v .power) .state)) count (omega (arith, q))) (refl, refl) refl)
     where
       no-words : (k : Bool) (n : ℕ) → n ≡ 0 → packed (readBits (layoutOf m) m k at n) room ≡ room
       no-words k n e = ap (λ (x : ℕ). packed (readBits (layoutOf m) m k at x) room) e ∙ none k
@@ -234,7 +238,7 @@ module _ (v : Session) (m : List ℕ) where
       (refusals v m [] (badData y at d) ++ ((gives 11 offSession 0 s (after m (take s stores)) [], ltb s (length stores)) ∷ []))
       (gives 0 (registerTo l (cond killed (withKilled (l .register)) (withUnwritten (someUnwritten y m at (length d / 2)) (l .register)))) 0 (length stores) (after m stores) [])
       (λ e. refusal tag-of c 1 refl, (λ e. refusal tag-of c 2 refl, (λ e. refusal tag-of c 3 refl, (λ e. refusal tag-of c 5 refl, (λ e. refusal tag-of c 6 refl, (λ e. refusal tag-of c 13 refl, (λ e. lost-answer tag-of c (ltb-true _ _ e), tt)))))))
-      (zero-answer tag-of c _ refl (λ q. refl) refl refl)
+      (zero-answer tag-of c _ refl (λ q. refl) (refl, refl) refl)
 
 -- calls without an image, and power-up
 module _ (t : Tag) where
@@ -246,7 +250,7 @@ module _ (t : Tag) where
       let c = admit n in
       first-each (Tabled t c) ((answered 5 s, isOff (s .power)) ∷ (answered 6 s, l .held) ∷ (answered 9 s, not (isArbitrate (l .state))) ∷ [])
       (answered 0 (movedTo l (state.Acknowledged n)))
-      (λ e. refusal t c 5 refl, (λ e. refusal t c 6 refl, (λ e. refusal t c 9 refl, tt))) (zero-answer t c _ refl (λ q. refl) refl refl)
+      (λ e. refusal t c 5 refl, (λ e. refusal t c 6 refl, (λ e. refusal t c 9 refl, tt))) (zero-answer t c _ refl (λ q. refl) (refl, refl) refl)
 
   ask-tabled : Tabled t ask (askOf (t .session))
   unfolding askOf
@@ -254,7 +258,7 @@ module _ (t : Tag) where
       let s = t .session in
       let l = liveOf (s .power) in
       first-each (Tabled t ask) ((answered 5 s, isOff (s .power)) ∷ (answered 6 s, l .held || isLinked (l .state)) ∷ []) (answered 0 (heldTo l true))
-      (λ e. refusal t ask 5 refl, (λ e. refusal t ask 6 refl, tt)) (zero-answer t ask _ refl (λ q. refl) refl refl)
+      (λ e. refusal t ask 5 refl, (λ e. refusal t ask 6 refl, tt)) (zero-answer t ask _ refl (λ q. refl) (refl, refl) refl)
 
   release-tabled : Tabled t release (releaseOf (t .session))
   unfolding releaseOf
@@ -262,7 +266,7 @@ module _ (t : Tag) where
       let s = t .session in
       let l = liveOf (s .power) in
       first-each (Tabled t release) ((answered 5 s, isOff (s .power)) ∷ (answered 6 s, not (l .held)) ∷ []) (answered 0 (heldTo l false))
-      (λ e. refusal t release 5 refl, (λ e. refusal t release 6 refl, tt)) (zero-answer t release _ refl (λ q. refl) refl refl)
+      (λ e. refusal t release 5 refl, (λ e. refusal t release 6 refl, tt)) (zero-answer t release _ refl (λ q. refl) (refl, refl) refl)
 
   register-tabled : Tabled t register (registerOf (t .session))
   unfolding registerOf
@@ -270,7 +274,7 @@ module _ (t : Tag) where
       let s = t .session in
       let l = liveOf (s .power) in
       first-each (Tabled t register) ((answered 5 s, isOff (s .power)) ∷ (answered 6 s, not (l .held)) ∷ []) (told l)
-      (λ e. refusal t register 5 refl, (λ e. refusal t register 6 refl, tt)) (zero-answer t register _ refl (λ q. refl) refl refl)
+      (λ e. refusal t register 5 refl, (λ e. refusal t register 6 refl, tt)) (zero-answer t register _ refl (λ q. refl) (refl, refl) refl)
 
   power-tabled : (s : ℕ) → Tabled t (powerUp s) (powerUpOf (t .image) s)
   unfolding powerUpOf started
@@ -281,7 +285,7 @@ module _ (t : Tag) where
       first-each (Tabled t c)
       (imageRows (λ n. leaves n offSession m []) m ++ ((poweredTo 11 offSession s (after m (take s stores)), ltb s (length stores)) ∷ []))
       (poweredTo 0 (newSession (firstIn (layoutOf m) (after m stores))) (length stores) (after m stores))
-      (λ e. refusal t c 1 refl, (λ e. refusal t c 2 refl, (λ e. refusal t c 3 refl, (λ e. lost-answer t c (ltb-true _ _ e), tt)))) (zero-answer t c _ refl (λ q. refl) refl refl)
+      (λ e. refusal t c 1 refl, (λ e. refusal t c 2 refl, (λ e. refusal t c 3 refl, (λ e. lost-answer t c (ltb-true _ _ e), tt)))) (zero-answer t c _ refl (λ q. refl) (refl, refl) refl)
 
 tabled : (t : Tag) (c : Call) → Tabled t c (answerOf t c)
 unfolding tag call handed tag-of
@@ -306,9 +310,35 @@ fit-again fit.Header = refl
 fit-again fit.Content = refl
 fit-again (fit.Good y) = refl
 
+checks-so : (m : List ℕ) → Checks m
+unfolding checkOf
+checks-so m =
+    record {
+      good-so = λ y e. check-good m y e;
+      so-good = λ y g. good-check y m g;
+      short = λ l. rw (lt-ltb (length m) 32 l);
+      header = λ l f. rw (le-ltb (length m) 32 l, no-header f);
+      content = λ l h f. rw (le-ltb (length m) 32 l, header-both (layoutOf m) m .1 h, no-content (le-ltb (length m) 32 l) (header-both (layoutOf m) m .1 h) f);
+    }
+  where
+    no-header : (Header (layoutOf m) m → ⊥) → headerGood (layoutOf m) m ≡ false
+    no-header f = go (headerGood (layoutOf m) m) refl
+      where
+        go : (b : Bool) → headerGood (layoutOf m) m ≡ b → b ≡ false
+        go true e = absurd (f (header-both (layoutOf m) m .0 e))
+        go false e = refl
+
+    no-content : ltb (length m) 32 ≡ false → headerGood (layoutOf m) m ≡ true → (Good (layoutOf m) m → ⊥) → contentGood (layoutOf m) m ≡ false
+    no-content s h f = go (contentGood (layoutOf m) m) refl
+      where
+        go : (b : Bool) → contentGood (layoutOf m) m ≡ b → b ≡ false
+        go true e = absurd (f (check-good m (layoutOf m) (rw (s, h, e))))
+        go false e = refl
+
 pub demand-1 : Demand1 answerOf
 demand-1 =
     record {
+      checks = checks-so;
       check = λ m p q e f. sym (fit-again p) ∙ ap fitOf (e ∙ sym f) ∙ fit-again q;
       one = λ t c p q m n a b e f. one-outcome p q m n a b (answerOf t c) e f;
       table = tabled;

@@ -14,7 +14,7 @@ use Rattle.image.specs.Worked.{worked, pendingOne}
 use Rattle.frames.specs.Frames.{heardOf, checksumRight}
 use Rattle.replies.specs.Pack.{filled, packed}
 use Rattle.replies.specs.Replies.{checked}
-use Rattle.rights.specs.Rights.{writeCode}
+use Rattle.rights.specs.Rights.{writeCode, lockedTo}
 use Rattle.stores.specs.Stores.{powerStores}
 use Rattle.states.specs.declared.Cover.the-variants as cover
 use Rattle.states.specs.declared.Half.{Half}
@@ -153,3 +153,8 @@ numbers =
 pub all-numbers : Hold numbers
 unfolding numbers frameOf admitOf askOf releaseOf registerOf readOf writeOf powerUpOf started powerStores layoutOf headerGood blocksIn contentGood rulesHold worked wordAt withWord wordsBits bitsOf crcOf fieldAt pointerAt heardOf checksumRight filled packed checked writeCode write3 write16 kill2 access
 all-numbers = (refl, (refl, (refl, (refl, (refl, (refl, (refl, (refl, (refl, (refl, (refl, (refl, (refl, (refl, (refl, (refl, (refl, (refl, (refl, (refl, (refl, (refl, (refl, (refl, (refl, (refl, (refl, (refl, (refl, (refl, (refl, (refl, (refl, (refl, (refl, (refl, (refl, (refl, (refl, (refl, (refl, (refl, (refl, (refl, (refl, (refl, (refl, (refl, (refl, (refl, (refl, (refl, (refl, (refl, (refl, (refl, (refl, (refl, (refl, (refl, (refl, (refl, (refl, (refl, (refl, tt)))))))))))))))))))))))))))))))))))))))))))))))))))))))))))))))))
+
+-- a Lock sets and clears masked bits and leaves the others
+pub masked : lockedTo 0x2AA 0x0F0 0x0C3 ≡ 0x2CA
+unfolding lockedTo
+masked = refl

@@ -93,7 +93,7 @@ table =
     ∷ p 10 (wordAt (sent locked lock10 60 5 .image) 16 ∷ []) (0x023 ∷ [])
     ∷ p 11 (p11 .number ∷ fieldAt (p11 .room) 1 8 ∷ wordAt (p11 .image) 16 ∷ []) (10 ∷ 0x04 ∷ 0x003 ∷ [])
     ∷ p 12 (p12 .stores ∷ numberIn (liveOf (p12 .session .power) .register) ∷ below (λ j. wordAt (p12 .image) (30 + j)) 4)
-    (8 ∷ 2 ∷ 6 ∷ 10 ∷ 0x3333 ∷ 0x4444 ∷ [])
+    (8 ∷ 2 ∷ 6 ∷ 10 ∷ 0x5566 ∷ 0x7788 ∷ [])
     ∷ []
 
 pub proved-cases : Hold table

@@ -9,10 +9,11 @@ use lib.Dec.{eqb}
 use lib.ListN.{length, take}
 use Rattle.bits.specs.Words.{Bytes, wordAt, Store, after}
 use Rattle.image.specs.declared.Layout.{Layout}
-use Rattle.image.specs.Layout.{end, blocksIn, within}
+use Rattle.image.specs.Layout.{layoutOf, end, blocksIn, within}
 use Rattle.image.specs.Content.{lockWord, permalock}
 use Rattle.image.specs.declared.Fit.{Fit}
-use Rattle.image.specs.Check.{checkOf, meaning, good}
+use Rattle.image.specs.Check.{checkOf, meaning, refused, good}
+use Rattle.image.specs.Rules.{Header, Good}
 use Rattle.replies.specs.declared.Reply.the-variants as reply
 use Rattle.replies.specs.Replies.{replyBits}
 use Rattle.replies.specs.Pack.{packed}
@@ -35,13 +36,14 @@ use Rattle.demands.specs.Calls.{Call, powerUp, frame, write, Tag, Progra
 abbrev pub refuses : ℕ → Bool
 refuses n = within 1 9 n || eqb n 13
 
+-- the error codes
+abbrev pub AnErrorCode : Code → Type 0
+AnErrorCode e = (e ≡ code.Error 0x00) ⊎ (e ≡ code.Error 0x03) ⊎ (e ≡ code.Error 0x04)
+
 -- number by number: 1 to 9 and 13 leave everything; 10 gives the error reply of its code, leaves the image and uses up the cover number; 11 comes where
 -- the power lasts for fewer stores than are needed, and leaves the first s of them, Off and no reply;
 -- 12 leaves the image, Arbitrate and no reply; and an answer without a reply changes no byte of the room. Done, it makes the stores of its words and no other
 -- (none where it changes no word, 3n + 2 for n); a value is handed back where the register is read, and is 0 elsewhere
-abbrev pub AnErrorCode : Code → Type 0
-AnErrorCode e = (e ≡ code.Error 0x00) ⊎ (e ≡ code.Error 0x03) ⊎ (e ≡ code.Error 0x04)
-
 pub record Tabled (t : Tag) (c : Call) (r : Result) : Type 0 where
   pub listed : r .number ≤ 13
   pub refused : refuses (r .number) ≡ true → r ≡ leaves (r .number) (sessionIn t c) (imageIn t c) (roomIn c)
@@ -58,11 +60,20 @@ pub record Tabled (t : Tag) (c : Call) (r : Result) : Type 0 where
       × (r ≡ record { number = 11; session = offSession; reply = 0; stores = powerIn c; value = 0; image = after (imageIn t c) (take (powerIn c) (storesIn t c)); room = roomIn c })
   pub dropped : r .number ≡ 12 → r ≡ leaves 12 (movedTo (liveOf (t .session .power)) state.Arbitrate) (imageIn t c) (roomIn c)
   pub silent : r .reply ≡ 0 → r .room ≡ roomIn c
-  pub made : r .number ≡ 0 → r .stores ≡ length (storesIn t c)
+  pub made : r .number ≡ 0 → (r .stores ≡ length (storesIn t c)) × (r .image ≡ after (imageIn t c) (storesIn t c))
   pub value : r .value ≡ cond (eqb (r .number) 0) (valueIn t c) 0
+
+-- what the check answers: good just where every rule of header and content holds (`image` Rules), else the first of 1, 2 and 3
+pub record Checks (m : List ℕ) : Type 0 where
+  pub good-so : (y : Layout) → checkOf m ≡ good y → Good y m
+  pub so-good : (y : Layout) → Good y m → checkOf m ≡ good y
+  pub short : length m < 32 → checkOf m ≡ refused 1
+  pub header : 32 ≤ length m → (Header (layoutOf m) m → ⊥) → checkOf m ≡ refused 2
+  pub content : 32 ≤ length m → Header (layoutOf m) m → (Good (layoutOf m) m → ⊥) → checkOf m ≡ refused 3
 
 pub record Demand1 (A : Program) : Type 0 where
   pub check : (m : List ℕ) (p q : Fit) → meaning p ≡ checkOf m → meaning q ≡ checkOf m → p ≡ q
+  pub checks : (m : List ℕ) → Checks m
   pub one : (t : Tag) (c : Call) (p q : Outcome) (m n a b : List ℕ) → Meets A t c p m a → Meets A t c q n b → (p ≡ q) × (m ≡ n) × (a ≡ b)
   pub table : (t : Tag) (c : Call) → Tabled t c (A t c)
 
@@ -110,7 +121,7 @@ SameOnce A y m n =
     (j k : ℕ) → start A m j .number ≡ 0 → start A n k .number ≡ 0
     → (i : ℕ) → i < y .work .at → wordAt (start A m j .image) i ≡ wordAt (start A n k .image) i
 
--- m, which is left where k stores count as made, comes to the old words or to the new ones; no power-up of it that lasts for 257 stores is refused or cut
+-- m, which is left where k stores count as made, comes to the old words or to the new ones; no power-up of it that lasts for 257 stores (255 words, the count 0 and the CRC-16) is refused or cut
 pub record Unbroken (A : Program) (y : Layout) (t : Tag) (c : Storing) (n enough k : ℕ) (m : List ℕ) : Type 0 where
   pub old : k ≤ 2 * n → SameOnce A y m (t .image)
   pub new : 2 * n < k → SameOnce A y m (A t (told c enough) .image)

@@ -31,15 +31,15 @@ locked = withWord worked 44 0x8000
 
 -- four words for USER 2 to 5
 abbrev pub fourWords : List ℕ
-fourWords = bytesOf (0x1111 ∷ 0x2222 ∷ 0x3333 ∷ 0x4444 ∷ [])
+fourWords = bytesOf (0x1122 ∷ 0x3344 ∷ 0x5566 ∷ 0x7788 ∷ [])
 
 -- USER 4 and 5 are words 32 and 33 of the image
 abbrev pub p12Stores : List Store
 p12Stores =
-    store 46 32 ∷ store 47 0x3333
-    ∷ store 48 33 ∷ store 49 0x4444
+    store 46 32 ∷ store 47 0x5566
+    ∷ store 48 33 ∷ store 49 0x7788
     ∷ store 45 2
-    ∷ store 32 0x3333 ∷ store 33 0x4444
+    ∷ store 32 0x5566 ∷ store 33 0x7788
     ∷ store 45 0
     ∷ []
 
@@ -54,6 +54,13 @@ pub record Writes : Type 0 where
       ≡ gives 0 (holding state.Arbitrate true false) 0 0 (withWord worked 21 1) []
   pub user-10 : writeOf (holding state.Arbitrate false false) (withWord worked 16 0x002) 2 fourWords 14
       ≡ gives 0 (holding state.Arbitrate true false) 0 0 (withWord worked 16 0x002) []
+  -- all words written: no bit is set, and set bits last
+  pub clean : writeOf (holding state.Arbitrate false false) worked 2 fourWords 14 .session ≡ holding state.Arbitrate false false
+  pub lasts : writeOf (holding state.Arbitrate true false) worked 2 fourWords 14 .session ≡ holding state.Arbitrate true false
+  pub lasts-killed : writeOf (holding state.Arbitrate false true) locked 2 fourWords 14 .session ≡ holding state.Arbitrate true true
+  pub lasts-dead : writeOf (holding state.Killed true false) locked 2 fourWords 8 .session ≡ holding state.Killed true true
+  -- USER at 01 is open to the port
+  pub user-01 : writeOf (holding state.Arbitrate false false) (withWord worked 16 0x001) 2 fourWords 14 .stores ≡ 14
   pub nothing : writeOf (holding state.Arbitrate false false) locked 2 [] 8 ≡ gives 13 (holding state.Arbitrate false false) 0 0 locked []
   pub odd : writeOf (holding state.Arbitrate false false) locked 2 (1 ∷ 2 ∷ 3 ∷ []) 8 ≡ gives 13 (holding state.Arbitrate false false) 0 0 locked []
   pub last : writeOf (holding state.Arbitrate false false) worked 12 fourWords 13 ≡ gives 11 offSession 0 13 (after worked (take 13 (changeStores 45 (writtenWords workedLayout worked 12 fourWords 4)))) []
@@ -70,6 +77,11 @@ writes =
       killed = refl;
       password = refl;
       user-10 = refl;
+      clean = refl;
+      lasts = refl;
+      lasts-killed = refl;
+      lasts-dead = refl;
+      user-01 = refl;
       nothing = refl;
       odd = refl;
       last = refl;
@@ -113,7 +125,7 @@ registers =
 -- a write of USER 2 to 5 that is refused whole for its locked words, whatever it answers; and one that says 5 stores were made
 pub never-refused : (o : Outcome) → result o locked [] ≡ writeOf (holding state.Arbitrate false false) locked 2 fourWords 8 → ⊥
 unfolding worked wordAt withWord
-never-refused o e = let z : _≡_ {A = ℕ} 24 0x3333 = ap (λ (r : Result). wordAt (r .image) 32) (e ∙ writes .p12) in omega arith
+never-refused o e = let z : _≡_ {A = ℕ} 24 0x5566 = ap (λ (r : Result). wordAt (r .image) 32) (e ∙ writes .p12) in omega arith
 
 pub never-five : (o : Outcome) (m : List ℕ) → o .stores ≡ 5 → result o m [] ≡ writeOf (holding state.Arbitrate false false) locked 2 fourWords 8 → ⊥
 never-five o m h e = let z : _≡_ {A = ℕ} 5 8 = sym h ∙ ap (λ (r : Result). r .stores) (e ∙ writes .p12) in omega arith
