@@ -19,7 +19,7 @@ use Rattle.states.specs.declared.Cover.the-variants as cover
 use Rattle.states.specs.declared.Half.the-variants as half
 use Rattle.states.specs.declared.State.the-variants as state
 use Rattle.tag.specs.Session.{offSession, on, clear}
-use Rattle.tag.specs.Power.{started, powerUpOf}
+use Rattle.tag.specs.Power.{powerUpOf}
 use Rattle.tag.specs.Table.{input, frameOf, admitOf}
 use Rattle.tag.specs.Port.{askOf, releaseOf, registerOf, readOf, writeOf}
 use Rattle.capi.specs.declared.Record.{Record}
@@ -129,7 +129,7 @@ pub record Large : Type 0 where
   pub write-bad : written (of 7 1 0) .number ≡ 5
 
 pub large : Large
-unfolding sessionOf looseOf same checkOf powerUpOf started powerStores frameOf readOf writeOf layoutOf headerGood blocksIn contentGood rulesHold worked wordAt withWord wordsBits bitsOf crcOf fieldAt heardOf filled packed
+unfolding sessionOf looseOf same checkOf powerUpOf powerStores frameOf readOf writeOf layoutOf headerGood blocksIn contentGood rulesHold worked wordAt withWord wordsBits bitsOf crcOf fieldAt heardOf filled packed
 large =
     record {
       check = refl;

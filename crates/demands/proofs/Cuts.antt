@@ -24,7 +24,7 @@ use Rattle.stores.proofs.Sane.{crc-same, good-sane}
 use Rattle.stores.proofs.Cuts.{cuts, power-good, power-word, power-settles}
 use Rattle.tag.specs.Session.{offSession, newSession}
 use Rattle.tag.specs.Result.{Result}
-use Rattle.tag.specs.Power.{poweredTo, firstIn, started, powerUpOf}
+use Rattle.tag.specs.Power.{poweredTo, firstIn, powerUpOf}
 use Rattle.demands.specs.Calls.{Tag, answerOf, wordsIn, torn}
 use Rattle.demands.specs.Commands.{Start}
 use Rattle.demands.specs.Demands.{Storing, byRadio, byPort, told, Stores, powerUps, Unbroken, Cuts, Demand3}
@@ -34,10 +34,6 @@ use Rattle.demands.proofs.Rising.{rising}
 
 -- a power-up of a good image
 module _ (y : Layout) (m : List ℕ) (g : Good y m) where
-  power-started : (s : ℕ) → powerUpOf m s ≡ started (layoutOf m) m s
-  unfolding powerUpOf
-  power-started s = let h = check-0 m y (sym (good-check y m g)) in rw (h .0, h .1, h .2)
-
   stores : List Store
   stores = powerStores (layoutOf m) m
 
@@ -48,8 +44,8 @@ module _ (y : Layout) (m : List ℕ) (g : Good y m) where
   made = poweredTo 0 (newSession (firstIn (layoutOf m) (after m stores))) (length stores) (after m stores)
 
   power-ends : (s : ℕ) → powerUpOf m s ≡ cond (ltb s (length stores)) (lost s) made
-  unfolding started stores lost made
-  power-ends s = power-started s
+  unfolding powerUpOf stores lost made
+  power-ends s = let h = check-0 m y (sym (good-check y m g)) in rw (h .0, h .1, h .2)
 
   pub power-image : (s : ℕ) → powerUpOf m s .image ≡ after m (take s (powerStores (layoutOf m) m))
   unfolding stores lost made

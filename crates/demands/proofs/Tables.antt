@@ -36,7 +36,7 @@ use Rattle.tag.specs.Session.{offSession, newSession}
 use Rattle.tag.specs.Result.{Result, leaves, gives}
 use Rattle.tag.specs.One.{one-outcome}
 use Rattle.states.specs.Commands.{linkOf, isKilled, used, isArbitrate, isLinked}
-use Rattle.tag.specs.Power.{poweredTo, firstIn, started, powerUpOf}
+use Rattle.tag.specs.Power.{powerRows, powered, powerUpOf}
 use Rattle.tag.specs.Table.{Input, input, scene, comes, stateOf, liveOf, isOff, isError, effect, replyOr, replyOf, fits, storesOf, movedTo, dropped, replied, rows, frameOf, answered, admitOf}
 use Rattle.tag.specs.Port.{heldTo, told, askOf, releaseOf, registerOf, badCount, badData, readBits, portWords, someUnwritten, registerTo, withKilled, withUnwritten, refusals, readOf, writeOf}
 use Rattle.demands.specs.Calls.{Call, powerUp, admit, frame, ask, release, register, read, write, Tag, answerOf, sessionIn, imageIn, roomIn, powerIn, storesIn, valueIn}
@@ -277,7 +277,7 @@ module _ (t : Tag) where
       (λ e. refusal t register 5 refl, (λ e. refusal t register 6 refl, tt)) (zero-answer t register _ refl (λ q. refl) (refl, refl) refl)
 
   power-tabled : (s : ℕ) → Tabled t (powerUp s) (powerUpOf (t .image) s)
-  unfolding powerUpOf started
+  unfolding powerUpOf
   power-tabled s =
       let m = t .image in
       let stores = powerStores (layoutOf m) m in

@@ -21,7 +21,7 @@ use Rattle.rights.specs.Rights.{writeCode, lockedTo, lockCode}
 use Rattle.stores.specs.Stores.{powerStores}
 use Rattle.states.specs.declared.State.the-variants as state
 use Rattle.tag.specs.Result.{Result}
-use Rattle.tag.specs.Power.{started, powerUpOf}
+use Rattle.tag.specs.Power.{powerUpOf}
 use Rattle.tag.specs.Table.{liveOf, frameOf}
 use Rattle.tag.specs.Port.{numberIn, writeOf}
 use Rattle.demands.specs.Calls.{frame, storesIn}
@@ -97,5 +97,5 @@ table =
     ∷ []
 
 pub proved-cases : Hold table
-unfolding table frameOf writeOf powerUpOf started powerStores layoutOf headerGood blocksIn contentGood rulesHold worked wordAt withWord wordsBits bitsOf crcOf fieldAt pointerAt heardOf checksumRight filled packed checked writeCode lockedTo lockCode write3 lock10 lock11
+unfolding table frameOf writeOf powerUpOf powerStores layoutOf headerGood blocksIn contentGood rulesHold worked wordAt withWord wordsBits bitsOf crcOf fieldAt pointerAt heardOf checksumRight filled packed checked writeCode lockedTo lockCode write3 lock10 lock11
 proved-cases = (refl, (refl, (refl, (refl, (refl, (refl, (refl, (refl, (refl, (refl, (refl, (refl, tt))))))))))))

@@ -29,7 +29,7 @@ use Rattle.replies.specs.declared.Reply.the-variants as reply
 use Rattle.tag.specs.declared.Session.{Session}
 use Rattle.tag.specs.Session.{offSession, on, clear}
 use Rattle.tag.specs.Result.{Result}
-use Rattle.tag.specs.Power.{started, powerUpOf}
+use Rattle.tag.specs.Power.{powerUpOf}
 use Rattle.tag.specs.Table.{Input, input, everything, effect, storesOf, frameOf}
 use Rattle.demands.specs.Calls.{Call, powerUp, admit, frame, ask, release, register, read, write, Tag, Program, answerOf, torn}
 use Rattle.demands.specs.Demands.{Demand1, Demand3, Stores, told}
@@ -135,7 +135,7 @@ pub record Sham : Type 0 where
   pub old : wordAt (powerUpOf worked 257 .image) 31 ≡ 10
 
 pub sham : Sham
-unfolding powerUpOf started powerStores layoutOf headerGood blocksIn contentGood rulesHold worked wordAt withWord wordsBits bitsOf crcOf fieldAt pointerAt heardOf write3
+unfolding powerUpOf powerStores layoutOf headerGood blocksIn contentGood rulesHold worked wordAt withWord wordsBits bitsOf crcOf fieldAt pointerAt heardOf write3
 sham = record { starts = refl; mixes = refl; tears = refl; whole = refl; old = refl }
 
 pub shamming-falls : Demand3 shamming → ⊥

@@ -34,7 +34,7 @@ use Rattle.tag.specs.declared.Answer.the-variants as answer
 use Rattle.states.specs.declared.State.the-variants as state
 use Rattle.tag.specs.declared.Outcome.{Outcome}
 use Rattle.states.specs.Commands.{killWord}
-use Rattle.tag.specs.Power.{started, powerUpOf}
+use Rattle.tag.specs.Power.{powerUpOf}
 use Rattle.tag.specs.Table.{frameOf}
 use Rattle.tag.specs.Port.{writeOf}
 use Rattle.demands.specs.Calls.{Tag, frame, answerOf, Meets, Idle}
@@ -164,7 +164,7 @@ pub record Met : Type 0 where
   pub locked-block : Bytes locked × Idle workedLayout locked × (permalock workedLayout locked 0 ≡ 1)
 
 pub met : Met
-unfolding checkOf frameOf writeOf powerUpOf started powerStores layoutOf headerGood blocksIn contentGood rulesHold worked wordAt withWord wordsBits bitsOf crcOf fieldAt pointerAt heardOf checksumRight filled packed checked readCode writeCode lockedTo lockCode permaReadCode permaCode reqRn write3 readTwo reqCover kill1 kill2 access lock1 block2 erase2 permaRead perma3
+unfolding checkOf frameOf writeOf powerUpOf powerStores layoutOf headerGood blocksIn contentGood rulesHold worked wordAt withWord wordsBits bitsOf crcOf fieldAt pointerAt heardOf checksumRight filled packed checked readCode writeCode lockedTo lockCode permaReadCode permaCode reqRn write3 readTwo reqCover kill1 kill2 access lock1 block2 erase2 permaRead perma3
 met =
     record {
       one = refl;

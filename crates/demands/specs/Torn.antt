@@ -19,7 +19,7 @@ use Rattle.replies.specs.Replies.{checked}
 use Rattle.rights.specs.Rights.{writeCode}
 use Rattle.stores.specs.Stores.{powerStores}
 use Rattle.stores.specs.Cuts.{Cut}
-use Rattle.tag.specs.Power.{started, powerUpOf}
+use Rattle.tag.specs.Power.{powerUpOf}
 use Rattle.tag.specs.Table.{frameOf}
 use Rattle.demands.specs.Calls.{Tag, answerOf, torn}
 use Rattle.demands.specs.Demands.{Storing, byRadio, told, powerUps, SameOnce}
@@ -107,7 +107,7 @@ torn-table =
     ∷ []
 
 pub torn-cases : Hold torn-table
-unfolding torn-table frameOf powerUpOf started powerStores layoutOf headerGood blocksIn contentGood rulesHold worked wordAt withWord wordsBits bitsOf crcOf fieldAt pointerAt heardOf checksumRight filled packed checked writeCode write3
+unfolding torn-table frameOf powerUpOf powerStores layoutOf headerGood blocksIn contentGood rulesHold worked wordAt withWord wordsBits bitsOf crcOf fieldAt pointerAt heardOf checksumRight filled packed checked writeCode write3
 torn-cases = (refl, (refl, (refl, (refl, (refl, (refl, (refl, (refl, (refl, (refl, (refl, (refl, (refl, (refl, (refl, (refl, (refl, (refl, (refl, (refl, (refl, (refl, (refl, (refl, (refl, (refl, (refl, (refl, (refl, (refl, tt))))))))))))))))))))))))))))))
 
 -- word 31 after a whole power-up of four of them
@@ -122,7 +122,7 @@ record Four : Type 0 where
   done : Comes finished 0xABCD
 
 four : Four
-unfolding powerUpOf started powerStores layoutOf headerGood blocksIn contentGood rulesHold worked wordAt withWord wordsBits bitsOf crcOf
+unfolding powerUpOf powerStores layoutOf headerGood blocksIn contentGood rulesHold worked wordAt withWord wordsBits bitsOf crcOf
 four =
     record {
       before = record { starts = refl; shows = refl };

@@ -22,7 +22,7 @@ use Rattle.states.specs.declared.State.the-variants as state
 use Rattle.tag.specs.declared.Session.{Session}
 use Rattle.tag.specs.Session.{offSession, newSession}
 use Rattle.tag.specs.Result.{Result}
-use Rattle.tag.specs.Power.{poweredTo, started, powerUpOf}
+use Rattle.tag.specs.Power.{poweredTo, powerUpOf}
 use Rattle.tag.specs.Table.{input, frameOf}
 
 -- Req_RN with the admission number BEEFh
@@ -91,7 +91,7 @@ pub record Powered : Type 0 where
   pub refused-first : powerUpOf (withWord worked 17 2) 0 ≡ poweredTo 3 offSession 0 (withWord worked 17 2)
 
 pub powered : Powered
-unfolding powerUpOf started powerStores layoutOf headerGood blocksIn contentGood rulesHold worked wordAt withWord wordsBits bitsOf crcOf
+unfolding powerUpOf powerStores layoutOf headerGood blocksIn contentGood rulesHold worked wordAt withWord wordsBits bitsOf crcOf
 powered = record { idle = refl; no-power = refl; pending-cut = refl; pending-killed = refl; refused-first = refl }
 
 -- the handle, a write, a read, and what a cut and a small room do

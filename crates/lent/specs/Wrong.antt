@@ -23,7 +23,7 @@ use Rattle.tag.specs.declared.Session.{Session}
 use Rattle.tag.specs.declared.Outcome.{Outcome}
 use Rattle.tag.specs.Session.{offSession, newSession, on, clear}
 use Rattle.tag.specs.Result.{Result}
-use Rattle.tag.specs.Power.{started, powerUpOf}
+use Rattle.tag.specs.Power.{powerUpOf}
 use Rattle.tag.specs.Table.{input, frameOf, admitOf}
 use Rattle.tag.specs.Port.{bitOf, numberIn, askOf, releaseOf, registerOf, readOf, writeOf}
 use Rattle.lent.specs.Lent.{Lent, finds}
@@ -81,7 +81,7 @@ pub record Wrong : Type 0 where
   pub frame-changed : Never (frameOf (input known [] (0xC0 ∷ []) 8 0 [] 0)) arbitrate
 
 pub wrong : Wrong
-unfolding powerUpOf started powerStores askOf releaseOf registerOf admitOf readOf writeOf frameOf heardOf layoutOf headerGood blocksIn contentGood rulesHold worked wordAt withWord wordsBits bitsOf fieldAt crcOf
+unfolding powerUpOf powerStores askOf releaseOf registerOf admitOf readOf writeOf frameOf heardOf layoutOf headerGood blocksIn contentGood rulesHold worked wordAt withWord wordsBits bitsOf fieldAt crcOf
 wrong =
     record {
       power-up-kept = never (powerUpOf worked 1) offSession refl;

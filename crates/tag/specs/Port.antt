@@ -29,17 +29,29 @@ heldTo l b = on (l .state) b (l .register)
 abbrev pub registerTo : Live → Register → Session
 registerTo l r = on (l .state) (l .held) r
 
+-- the answers of calls without an image: Off, then what the port forbids
+abbrev pub portRows : Session → Bool → List (Result × Bool)
+portRows s port = (answered 5 s, isOff (s .power)) ∷ (answered 6 s, port) ∷ []
+
 -- 4.1: asking is granted unless the state is Open or Secured or the port is held
+abbrev pub askRows : Session → List (Result × Bool)
+askRows s = let l = liveOf (s .power) in portRows s (l .held || isLinked (l .state))
+
+abbrev pub granted : Session → Result
+granted s = answered 0 (heldTo (liveOf (s .power)) true)
+
 unfoldable pub askOf : Session → Result
-askOf s =
-    let l = liveOf (s .power) in
-    first ((answered 5 s, isOff (s .power)) ∷ (answered 6 s, l .held || isLinked (l .state)) ∷ []) (answered 0 (heldTo l true))
+askOf s = first (askRows s) (granted s)
 
 -- 4.7: releasing and reading the register need the port held
+abbrev pub holderRows : Session → List (Result × Bool)
+holderRows s = portRows s (not (liveOf (s .power) .held))
+
+abbrev pub released : Session → Result
+released s = answered 0 (heldTo (liveOf (s .power)) false)
+
 unfoldable pub releaseOf : Session → Result
-releaseOf s =
-    let l = liveOf (s .power) in
-    first ((answered 5 s, isOff (s .power)) ∷ (answered 6 s, not (l .held)) ∷ []) (answered 0 (heldTo l false))
+releaseOf s = first (holderRows s) (released s)
 
 -- 4.5: bit 1, some word wasn't written; bit 0, killed
 abbrev pub bitOf : Bool → ℕ
@@ -54,9 +66,7 @@ told l =
     record { number = 0; session = registerTo l clear; reply = 0; stores = 0; value = numberIn (l .register); image = []; room = [] }
 
 unfoldable pub registerOf : Session → Result
-registerOf s =
-    let l = liveOf (s .power) in
-    first ((answered 5 s, isOff (s .power)) ∷ (answered 6 s, not (l .held)) ∷ []) (told l)
+registerOf s = first (holderRows s) (told (liveOf (s .power)))
 
 -- set bits last
 abbrev pub withKilled : Register → Register
@@ -80,13 +90,19 @@ abbrev pub readBits : Layout → List ℕ → Bool → ℕ → ℕ → List ℕ
 readBits y m killed at count = cond killed (replicate (16 * count) 0) (wordsBits m (y .user .at + at) count)
 
 -- order 1, 2, 3, 5, 6, 13, 4
-unfoldable pub readOf : Session → List ℕ → ℕ → ℕ → List ℕ → Result
-readOf s m at count room =
+abbrev pub readRows : Session → List ℕ → ℕ → ℕ → List ℕ → List (Result × Bool)
+readRows s m at count room =
+    refusals s m room (badCount (layoutOf m) at count) ++ ((leaves 4 s m room, ltb (length room) (2 * count)) ∷ [])
+
+abbrev pub shown : Session → List ℕ → ℕ → ℕ → List ℕ → Result
+shown s m at count room =
     let l = liveOf (s .power) in
-    let y = layoutOf m in
     let killed = isKilled (l .state) in
-    first (refusals s m room (badCount y at count) ++ ((leaves 4 s m room, ltb (length room) (2 * count)) ∷ []))
-    (gives 0 (registerTo l (cond killed (withKilled (l .register)) (l .register))) (16 * count) 0 m (packed (readBits y m killed at count) room))
+    gives 0 (registerTo l (cond killed (withKilled (l .register)) (l .register))) (16 * count) 0 m
+    (packed (readBits (layoutOf m) m killed at count) room)
+
+unfoldable pub readOf : Session → List ℕ → ℕ → ℕ → List ℕ → Result
+readOf s m at count room = first (readRows s m at count room) (shown s m at count room)
 
 -- 4.4: the port may write; and a USER word that it may write
 abbrev pub portOpen : Layout → List ℕ → Bool
@@ -113,15 +129,24 @@ abbrev pub someUnwritten : Layout → List ℕ → ℕ → ℕ → Bool
 someUnwritten y m at n = not (every (λ j. portWrites y m (at + j)) n)
 
 -- order 1, 2, 3, 5, 6, 13, 11; a write has no room
-unfoldable pub writeOf : Session → List ℕ → ℕ → List ℕ → ℕ → Result
-writeOf s m at d power =
-    let l = liveOf (s .power) in
+abbrev pub writeStores : Session → List ℕ → ℕ → List ℕ → List Store
+writeStores s m at d =
     let y = layoutOf m in
-    let killed = isKilled (l .state) in
-    let stores = changeStores (y .work .at) (portWords y m killed at d) in
-    first
-    (refusals s m [] (badData y at d)
-    ++ ((lost m stores power [], ltb power (length stores)) ∷ []))
-    (gives 0
-    (registerTo l (cond killed (withKilled (l .register)) (withUnwritten (someUnwritten y m at (length d / 2)) (l .register))))
-    0 (length stores) (after m stores) [])
+    changeStores (y .work .at) (portWords y m (isKilled (liveOf (s .power) .state)) at d)
+
+abbrev pub writeRows : Session → List ℕ → ℕ → List ℕ → ℕ → List (Result × Bool)
+writeRows s m at d power =
+    let stores = writeStores s m at d in
+    refusals s m [] (badData (layoutOf m) at d) ++ ((lost m stores power [], ltb power (length stores)) ∷ [])
+
+abbrev pub written : Session → List ℕ → ℕ → List ℕ → Result
+written s m at d =
+    let l = liveOf (s .power) in
+    let stores = writeStores s m at d in
+    gives 0
+    (registerTo l
+    (cond (isKilled (l .state)) (withKilled (l .register)) (withUnwritten (someUnwritten (layoutOf m) m at (length d / 2)) (l .register))))
+    0 (length stores) (after m stores) []
+
+unfoldable pub writeOf : Session → List ℕ → ℕ → List ℕ → ℕ → Result
+writeOf s m at d power = first (writeRows s m at d power) (written s m at d)

@@ -1,7 +1,7 @@
 -- Power-up's answers, in order (RULES 2.6, 2.7 and 5): 1, 2, 3, 11. Assumes nothing.
 use Prim.Native.Nat.{ℕ}
-use mathlib.Core.Bool.{cond}
-use mathlib.Core.List.{List, []}
+use mathlib.Core.Bool.{Bool, cond}
+use mathlib.Core.List.{List, [], _∷_, _++_}
 use lib.Dec.{eqb, ltb}
 use lib.ListN.{length}
 use Rattle.bits.specs.Words.{after}
@@ -25,12 +25,17 @@ poweredTo number session stores image = gives number session 0 stores image []
 abbrev pub firstIn : Layout → List ℕ → State
 firstIn y m = cond (eqb (killedWord y m) 0) state.Arbitrate state.Killed
 
--- a good image of the layout y: the first s stores where it needs more, else all of them
-unfoldable pub started : Layout → List ℕ → ℕ → Result
-started y m s =
+-- the rows, and what is left where none holds: every store made, and a new session
+abbrev pub powerRows : List ℕ → ℕ → List (Result × Bool)
+powerRows m s =
+    let stores = powerStores (layoutOf m) m in
+    imageRows (λ n. leaves n offSession m []) m ++ ((lost m stores s [], ltb s (length stores)) ∷ [])
+
+abbrev pub powered : List ℕ → Result
+powered m =
+    let y = layoutOf m in
     let stores = powerStores y m in
-    cond (ltb s (length stores)) (lost m stores s [])
-    (poweredTo 0 (newSession (firstIn y (after m stores))) (length stores) (after m stores))
+    poweredTo 0 (newSession (firstIn y (after m stores))) (length stores) (after m stores)
 
 unfoldable pub powerUpOf : List ℕ → ℕ → Result
-powerUpOf m s = first (imageRows (λ n. leaves n offSession m []) m) (started (layoutOf m) m s)
+powerUpOf m s = first (powerRows m s) (powered m)

@@ -19,7 +19,7 @@ use Rattle.replies.specs.Replies.{replyBits, replyLength}
 use Rattle.replies.specs.Pack.{packed}
 use Rattle.rights.specs.declared.Code.{Code}
 use Rattle.rights.specs.declared.Code.the-variants as code
-use Rattle.stores.specs.Stores.{changeStores}
+use Rattle.stores.specs.Stores.{changeStores, powerStores}
 use Rattle.stores.specs.Steps.{wordFrom}
 use Rattle.changes.specs.Changes.{Holds, orTo}
 use Rattle.plans.specs.declared.Plan.{Plan}
@@ -32,15 +32,23 @@ use Rattle.tag.specs.declared.Session.{Session}
 use Rattle.tag.specs.declared.Answer.{Answer}
 use Rattle.tag.specs.declared.Answer.the-variants as answer
 use Rattle.tag.specs.declared.Outcome.{Outcome}
-use Rattle.tag.specs.Session.{offSession}
+use Rattle.tag.specs.Session.{offSession, newSession}
 use Rattle.tag.specs.Result.{Result, gives, leaves, lost, result}
 use Rattle.states.specs.Commands.{asksOf, linkOf, isKilled, wrongCommand, breaks, used}
 use Rattle.plans.specs.Effects.{Scene, Effect, effectOf}
 use Rattle.tag.specs.Table.{fits, movedTo}
+use Rattle.tag.specs.Power.{poweredTo, firstIn}
 
 -- an Off session, after so many stores
 abbrev pub stoppedAt : Answer → ℕ → Outcome
 stoppedAt a k = record { answer = a; session = offSession; reply = 0; stores = k; value = 0 }
+
+-- a power-up of a good image of the layout y: the first s stores where it needs more, else all of them
+unfoldable pub started : Layout → List ℕ → ℕ → Result
+started y m s =
+    let stores = powerStores y m in
+    cond (ltb s (length stores)) (lost m stores s [])
+    (poweredTo 0 (newSession (firstIn y (after m stores))) (length stores) (after m stores))
 
 -- a session under power
 abbrev pub onSession : Live → Session

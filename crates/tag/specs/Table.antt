@@ -148,9 +148,12 @@ rows i =
     ∷ (cut i, ltb (i .power) (length (storesOf i)))
     ∷ []
 
--- the outcome of a frame
+-- none of them: 0; and the outcome of a frame
+abbrev pub done : Input → Result
+done i = replied i 0 (effect i .state) (storesOf i)
+
 unfoldable pub frameOf : Input → Result
-frameOf i = first (rows i) (replied i 0 (effect i .state) (storesOf i))
+frameOf i = first (rows i) (done i)
 
 abbrev pub input : Session → List ℕ → List ℕ → ℕ → ℕ → List ℕ → ℕ → Input
 input session image frame bits fresh room power =
@@ -160,12 +163,13 @@ input session image frame bits fresh room power =
 abbrev pub answered : ℕ → Session → Result
 answered n session = leaves n session [] []
 
-unfoldable pub admitOf : Session → ℕ → Result
-admitOf s n =
+abbrev pub admitRows : Session → List (Result × Bool)
+admitRows s =
     let l = liveOf (s .power) in
-    first
-    ((answered 5 s, isOff (s .power))
-    ∷ (answered 6 s, l .held)
-    ∷ (answered 9 s, not (isArbitrate (l .state)))
-    ∷ [])
-    (answered 0 (movedTo l (state.Acknowledged n)))
+    (answered 5 s, isOff (s .power)) ∷ (answered 6 s, l .held) ∷ (answered 9 s, not (isArbitrate (l .state))) ∷ []
+
+abbrev pub admitted : Session → ℕ → Result
+admitted s n = answered 0 (movedTo (liveOf (s .power)) (state.Acknowledged n))
+
+unfoldable pub admitOf : Session → ℕ → Result
+admitOf s n = first (admitRows s) (admitted s n)

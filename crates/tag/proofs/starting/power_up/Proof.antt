@@ -1,5 +1,6 @@
 -- `tag::starting::power_up` meets its contract: by the check's answer. Assumes nothing.
 use Rattle.tag.specs.Power.{powerUpOf}
+use Rattle.tag.specs.Steps.{started}
 use Rattle.image.proofs.Answers.{ready-is, ready-left, row-good, row-0, row-long, row-1, row-2, row-3, check-0}
 use mathlib.Core.Path.{sym, _∙_}
 use denote.Ref.{now}
@@ -42,7 +43,7 @@ returns-3 c =
     rw (c .stopped3 .ensures) (simp (h .0, h .1, h .2))
 
 returns-4 : tie.Need-returns-4
-unfolding powerUpOf
+unfolding powerUpOf started
 returns-4 c =
     let a = c .before .before .before .before .before .before .before .before .before .before .args in let m = now (a .image) in
     let r = c .before .before .before .before .before .before .match .rest in

@@ -1,5 +1,5 @@
 -- `tag::starting::start` meets its contract: cut or whole. Assumes nothing.
-use Rattle.tag.specs.Power.{started}
+use Rattle.tag.specs.Steps.{started}
 use Rattle.stores.specs.Stores.{powerStores}
 use Rattle.bits.specs.Words.{after}
 use lib.Seq.{take-all}
