@@ -19,8 +19,8 @@ use Rattle.image.specs.Check.{checkOf, refused, good, short, headerWrong, conte
 use Rattle.image.proofs.Answers.{check-good, check-0}
 use Rattle.frames.specs.declared.Order.{Order}
 use Rattle.frames.specs.declared.Order.the-variants as order
-use Rattle.frames.specs.declared.Heard.{Heard}
-use Rattle.frames.specs.declared.Heard.the-variants as heard
+use Rattle.frames.specs.Message.{Message}
+use Rattle.frames.specs.Message as heard
 use Rattle.frames.specs.Frames.{span, heardOf}
 use Rattle.replies.specs.declared.Reply.{Reply}
 use Rattle.replies.specs.declared.Reply.the-variants as reply
@@ -145,16 +145,16 @@ module _ (y : Layout) (a : Air) (st : State) (r : Register) (idle : Idle y (a .i
       (c .0, (c .1, (c .2, (ap not (eq-eqb (countIn (layoutOf (a .image)) (a .image)) 0 z), (refl, h)))))
 
   -- the rows from 7 on: 7, 8, 9, 12, and 10
-  row-7 : heardOf (a .frame) (a .bits) ≡ heard.Malformed → hears answerOf a (on st false r) ≡ stays 7 a (on st false r)
+  row-7 : heardOf (a .frame) (a .bits) ≡ heard.refused 7 → hears answerOf a (on st false r) ≡ stays 7 a (on st false r)
   unfolding frameOf handed last
-  row-7 h = first-at 5 (rows handed) (last handed) (ready 0 (drop 5 (rows handed)) (ap malformed h))
+  row-7 h = first-at 5 (rows handed) (last handed) (ready 0 (drop 5 (rows handed)) (ap malformed h)) ∙ ap (λ (x : Message). everything handed (heard.rowOf x)) h
 
-  row-8 : (x : Heard) → heardOf (a .frame) (a .bits) ≡ x → malformed x ≡ false → checksumWrong (a .frame) (a .bits) x ≡ true
+  row-8 : (x : Message) → heardOf (a .frame) (a .bits) ≡ x → malformed x ≡ false → checksumWrong (a .frame) (a .bits) x ≡ true
       → hears answerOf a (on st false r) ≡ stays 8 a (on st false r)
   unfolding frameOf handed last
   row-8 x h m e = first-at 6 (rows handed) (last handed) (ready 1 (drop 5 (rows handed)) (ap malformed h ∙ m, ap (checksumWrong (a .frame) (a .bits)) h ∙ e))
 
-  module _ (x : Heard) (h : heardOf (a .frame) (a .bits) ≡ x) (m : malformed x ≡ false) (k : checksumWrong (a .frame) (a .bits) x ≡ false) where
+  module _ (x : Message) (h : heardOf (a .frame) (a .bits) ≡ x) (m : malformed x ≡ false) (k : checksumWrong (a .frame) (a .bits) x ≡ false) where
     row-9 : wrong st x ≡ true → hears answerOf a (on st false r) ≡ stays 9 a (on st false r)
     unfolding frameOf handed last
     row-9 e = first-at 7 (rows handed) (last handed) (ready 2 (drop 5 (rows handed)) (ap malformed h ∙ m, (ap (checksumWrong (a .frame) (a .bits)) h ∙ k, ap (wrong st) h ∙ e)))
@@ -181,7 +181,7 @@ module _ (y : Layout) (a : Air) (st : State) (r : Register) (idle : Idle y (a .i
         → hears answerOf a (on st false r) ≡ replied-as (reply.Error e (linkOf st .handle))
     unfolding frameOf handed last replied-as
     row-10 e w b c l =
-        let code-is : effect handed .code ≡ code.Error e = ap (λ (z : Heard). comes handed z .code) h ∙ c in
+        let code-is : effect handed .code ≡ code.Error e = ap (λ (z : Message). comes handed z .code) h ∙ c in
         let reply-is : replyOf handed ≡ reply.Error e (linkOf st .handle) = ap (λ (q : Code). replyOr q (linkOf st .handle) (effect handed .reply)) code-is in
         first-at 9 (rows handed) (last handed)
         (ready 4 (drop 5 (rows handed)) (
@@ -298,7 +298,7 @@ module _ (h : ℕ) (c : Cover) (p : Half) where
 -- the frame's refusals, line by line; the layout is the image's
 module _ (a : Air) (r : Register) (idle : Idle (layoutOf (a .image)) (a .image)) where
   says-9 : (st : State) (n : ℕ) (o : Order) → Says a n o → wrongBy st n (asksOf o) ≡ true → hears answerOf a (on st false r) ≡ stays 9 a (on st false r)
-  says-9 st n o s e = row-9 (layoutOf (a .image)) a st r idle (heard.Said (record { number = n; order = o })) (s .heard) refl (ap not (s .right)) e
+  says-9 st n o s e = row-9 (layoutOf (a .image)) a st r idle (heard.said (record { number = n; order = o })) (s .heard) refl (ap not (s .right)) e
 
   early : (o : Order) → o ≢ order.ReqRn → asksOf o .early ≡ false
   early order.ReqRn d = absurd (d refl)
@@ -323,7 +323,7 @@ module _ (a : Air) (r : Register) (idle : Idle (layoutOf (a .image)) (a .image))
       record {
         arbitrate = λ n o s. says-9 state.Arbitrate n o s refl;
         killed = λ n o s. says-9 state.Killed n o s refl;
-        killed-nak = λ h. row-9 (layoutOf (a .image)) a state.Killed r idle heard.Nak h refl refl refl;
+        killed-nak = λ h. row-9 (layoutOf (a .image)) a state.Killed r idle heard.nak h refl refl refl;
         admission = λ m n o s d. says-9 (state.Acknowledged m) n o s (not-admitted m n o d);
         handle = λ q h c p n o s d. says-9 (linked q (link h c p)) n o s (unfit q h c p n o d);
       }
@@ -338,10 +338,10 @@ module _ (a : Air) (r : Register) (idle : Idle (layoutOf (a .image)) (a .image))
       → hears answerOf a (on (linked q (link h c p)) false r) ≡ drops a r
   unfolding handed
   says-12 q h c p o s f e =
-      row-12 (layoutOf (a .image)) a (linked q (link h c p)) r idle (heard.Said (record { number = h; order = o })) (s .heard) refl (ap not (s .right))
+      row-12 (layoutOf (a .image)) a (linked q (link h c p)) r idle (heard.said (record { number = h; order = o })) (s .heard) refl (ap not (s .right))
       (has-right h c p q (asksOf o) (has o q c f)) (go q)
     where
-      go : (q : Bool) → broken (handed (layoutOf (a .image)) a (linked q (link h c p)) r idle) (heard.Said (record { number = h; order = o })) ≡ true
+      go : (q : Bool) → broken (handed (layoutOf (a .image)) a (linked q (link h c p)) r idle) (heard.said (record { number = h; order = o })) ≡ true
       go true = e
       go false = e
 
@@ -423,8 +423,8 @@ module _ (a : Air) (r : Register) (idle : Idle (layoutOf (a .image)) (a .image))
   unfolding handed replied-as scene-in
   says-10 q h c o e s f l d = go q f d
     where
-      x : Heard
-      x = heard.Said (record { number = h; order = o })
+      x : Message
+      x = heard.said (record { number = h; order = o })
 
       go : (q : Bool) → Needs q c o → codeBy q c o ≡ code.Error e → hears answerOf a (on (linked q (link h c half.Nothing)) false r) ≡ errs a r q h half.Nothing e
       go true f d =
@@ -666,7 +666,7 @@ when-refused =
       unheard = λ y a st r idle.
           record {
             malformed = row-7 y a st r idle;
-            checksum = λ c h e. row-8 y a st r idle (heard.Said c) h refl (ap not e);
+            checksum = λ c h e. row-8 y a st r idle (heard.said c) h refl (ap not e);
           };
       wrong = λ y a r idle. wrongs a r (own-idle y (a .image) idle);
       dropped = λ y a r idle. subst (λ (z : Layout). Dropped answerOf z a r) (sym (own-layout y (a .image) idle)) (drop-lines a r (own-idle y (a .image) idle));

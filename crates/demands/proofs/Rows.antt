@@ -17,10 +17,10 @@ use Rattle.image.specs.Layout.{layoutOf, pairsIn}
 use Rattle.image.specs.Content.{countIn}
 use Rattle.image.specs.Rules.{Good}
 use Rattle.frames.specs.declared.Command.{Command}
-use Rattle.frames.specs.declared.Heard.{Heard}
-use Rattle.frames.specs.declared.Heard.the-variants as heard
+use Rattle.frames.specs.Message.{Message}
+use Rattle.frames.specs.Message as heard
 use Rattle.frames.specs.Frames.{heardOf}
-use Rattle.frames.proofs.Orders.{said-small}
+use Rattle.frames.proofs.Orders.{said-small, refused-7}
 use Rattle.replies.specs.declared.Reply.{Reply}
 use Rattle.rights.specs.declared.Code.{Code}
 use Rattle.rights.specs.declared.Code.the-variants as code
@@ -30,7 +30,7 @@ use Rattle.tag.specs.Result.{Result, gives}
 use Rattle.states.specs.Commands.{isKilled, linkOf}
 use Rattle.plans.specs.Effects.{Effect}
 use Rattle.tag.specs.Session.{offSession}
-use Rattle.tag.specs.Table.{Input, input, isOff, liveOf, broken, comes, effect, replyOr, isError, replyOf, fits, storesOf, replied, cut, rows, frameOf}
+use Rattle.tag.specs.Table.{Input, input, isOff, liveOf, malformed, broken, comes, effect, replyOr, isError, replyOf, fits, storesOf, replied, cut, rows, frameOf}
 use Rattle.tag.specs.Port.{badCount, badData, portWords, refusals, registerTo, withKilled, withUnwritten, someUnwritten, writeOf}
 use Rattle.tag.proofs.Plans.{none-or}
 use Rattle.demands.specs.Calls.{Tag, answerOf, wordsIn}
@@ -114,11 +114,20 @@ no-error (code.Error e) b p q =
     absurd (true≢false (sym q ∙ p))
 
 -- two functions of what was heard, case by case
-heard-same : {A : Type 0} (f g : Heard → A) → f heard.Malformed ≡ g heard.Malformed → f heard.Nak ≡ g heard.Nak → ((c : Command) → f (heard.Said c) ≡ g (heard.Said c))
-    → (x : Heard) → f x ≡ g x
-heard-same f g p q r heard.Malformed = p
-heard-same f g p q r heard.Nak = q
-heard-same f g p q r (heard.Said c) = r c
+heard-same : {A : Type 0} (f g : Message → A) → ((k : ℕ) → f (heard.refused k) ≡ g (heard.refused k)) → f heard.nak ≡ g heard.nak → ((c : Command) → f (heard.said c) ≡ g (heard.said c))
+    → (x : Message) → f x ≡ g x
+heard-same f g p q r (heard.refused k) = p k
+heard-same f g p q r heard.nak = q
+heard-same f g p q r (heard.said c) = r c
+
+-- a frame that is refused by itself is refused with 7
+pub refused-row : (f : List ℕ) (n : ℕ) → malformed (heardOf f n) ≡ true → heard.rowOf (heardOf f n) ≡ 7
+refused-row f n = go (heardOf f n) refl
+  where
+    go : (x : Message) → heardOf f n ≡ x → malformed x ≡ true → heard.rowOf x ≡ 7
+    go (heard.refused k) q e = refused-7 f n k q
+    go heard.nak q e = absurd (true≢false (sym e))
+    go (heard.said c) q e = absurd (true≢false (sym e))
 
 -- a frame
 module _ (v : Session) (m f : List ℕ) (bits fresh : ℕ) (room : List ℕ) (g : Good (layoutOf m) m) where
@@ -143,17 +152,17 @@ module _ (v : Session) (m f : List ℕ) (bits fresh : ℕ) (room : List ℕ) (g 
 
   front-refused : (s : ℕ) → Each (Refused m) (front s)
   unfolding with-power front
-  front-refused s = (λ e. (refl, lit< tt), (λ e. (refl, lit< tt), (λ e. (refl, lit< tt), (λ e. (refl, lit< tt), (λ e. (refl, lit< tt), (λ e. (refl, lit< tt), (λ e. (refl, lit< tt), (λ e. (refl, lit< tt), (λ e. (refl, lit< tt), (λ e. (refl, lit< tt), (λ e. (refl, lit< tt), tt)))))))))))
+  front-refused s = (λ e. (refl, lit< tt), (λ e. (refl, lit< tt), (λ e. (refl, lit< tt), (λ e. (refl, lit< tt), (λ e. (refl, lit< tt), (λ e. (refl, omega (arith, refused-row f bits e)), (λ e. (refl, lit< tt), (λ e. (refl, lit< tt), (λ e. (refl, lit< tt), (λ e. (refl, lit< tt), (λ e. (refl, lit< tt), tt)))))))))))
 
   -- the power matters to none of these
   module _ (a b : ℕ) where
-    same-broken : (x : Heard) → broken (with-power a) x ≡ broken (with-power b) x
+    same-broken : (x : Message) → broken (with-power a) x ≡ broken (with-power b) x
     unfolding with-power
-    same-broken = heard-same (broken (with-power a)) (broken (with-power b)) refl refl (λ c. refl)
+    same-broken = heard-same (broken (with-power a)) (broken (with-power b)) (λ k. refl) refl (λ c. refl)
 
-    same-comes : (x : Heard) → comes (with-power a) x ≡ comes (with-power b) x
+    same-comes : (x : Message) → comes (with-power a) x ≡ comes (with-power b) x
     unfolding with-power
-    same-comes = heard-same (comes (with-power a)) (comes (with-power b)) refl refl (λ c. refl)
+    same-comes = heard-same (comes (with-power a)) (comes (with-power b)) (λ k. refl) refl (λ c. refl)
 
     same-effect : effect (with-power a) ≡ effect (with-power b)
     unfolding with-power
@@ -205,10 +214,10 @@ module _ (v : Session) (m f : List ℕ) (bits fresh : ℕ) (room : List ℕ) (g 
       (no-error (effect (with-power 0) .code) (fits (replyOf (with-power 0)) room) (h .1 .1 .1 .1 .1 .1 .1 .1 .1 .0)
       (not-false (fits (replyOf (with-power 0)) room) (h .1 .1 .1 .1 .1 .1 .1 .1 .1 .1 .0)))
     where
-      go : (x : Heard) → heardOf f bits ≡ x → comes (with-power 0) x .code ≡ code.Nothing → Plan (layoutOf m) m (comes (with-power 0) x .words)
-      go heard.Malformed q e = no-plan (layoutOf m) m
-      go heard.Nak q e = no-plan (layoutOf m) m
-      go (heard.Said c) q e = order-plan (layoutOf m) m g (liveOf (v .power) .state) f fresh (c .order) (said-small f bits c q) e
+      go : (x : Message) → heardOf f bits ≡ x → comes (with-power 0) x .code ≡ code.Nothing → Plan (layoutOf m) m (comes (with-power 0) x .words)
+      go (heard.refused k) q e = no-plan (layoutOf m) m
+      go heard.nak q e = no-plan (layoutOf m) m
+      go (heard.said c) q e = order-plan (layoutOf m) m g (liveOf (v .power) .state) f fresh (c .order) (said-small f bits c q) e
 
   front-idle : None (front 0) → countIn (layoutOf m) m ≡ 0
   unfolding with-power front
@@ -334,8 +343,8 @@ pub words-told : (t : Tag) (c : Storing) (s : ℕ) → wordsIn t (told c s) ≡ 
 unfolding wordsOf
 words-told t (byRadio f bits fresh room) s = go (heardOf f bits)
   where
-    go : (x : Heard) → comes (input (t .session) (t .image) f bits fresh room s) x .words ≡ comes (input (t .session) (t .image) f bits fresh room 0) x .words
-    go heard.Malformed = refl
-    go heard.Nak = refl
-    go (heard.Said c) = refl
+    go : (x : Message) → comes (input (t .session) (t .image) f bits fresh room s) x .words ≡ comes (input (t .session) (t .image) f bits fresh room 0) x .words
+    go (heard.refused k) = refl
+    go heard.nak = refl
+    go (heard.said c) = refl
 words-told t (byPort at d) s = refl

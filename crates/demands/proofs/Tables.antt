@@ -15,8 +15,8 @@ use Rattle.image.specs.Layout.{layoutOf, within}
 use Rattle.image.specs.declared.Fit.{Fit}
 use Rattle.image.specs.declared.Fit.the-variants as fit
 use Rattle.image.specs.Check.{Checked, refused, good, meaning, imageRows}
-use Rattle.frames.specs.declared.Heard.{Heard}
-use Rattle.frames.specs.declared.Heard.the-variants as heard
+use Rattle.frames.specs.Message.{Message}
+use Rattle.frames.specs.Message as heard
 use Rattle.frames.specs.Frames.{heardOf}
 use Rattle.replies.specs.declared.Reply.{Reply}
 use Rattle.replies.specs.declared.Reply.the-variants as reply
@@ -37,7 +37,7 @@ use Rattle.tag.specs.Table.{Input, input, scene, comes, stateOf, liveOf, isOff,
 use Rattle.tag.specs.Port.{heldTo, told, askOf, releaseOf, registerOf, badCount, badData, readBits, portWords, someUnwritten, registerTo, withKilled, withUnwritten, refusals, readOf, writeOf}
 use Rattle.demands.specs.Calls.{Call, powerUp, admit, frame, ask, release, register, read, write, Tag, answerOf, sessionIn, imageIn, roomIn, powerIn, storesIn, valueIn}
 use Rattle.demands.specs.Demands.{refuses, AnErrorCode, Tabled, Demand1}
-use Rattle.demands.proofs.Rows.{Each, first-each}
+use Rattle.demands.proofs.Rows.{Each, first-each, refused-row}
 use Rattle.demands.proofs.Codes.{Among, effect-among}
 
 refusal-small : (n : ℕ) → refuses n ≡ true → n ≤ 13
@@ -125,10 +125,10 @@ module _ (v : Session) (m f : List ℕ) (bits fresh : ℕ) (room : List ℕ) (s 
   unfolding handed
   heard-among = go (heardOf f bits)
     where
-      go : (x : Heard) → Among (comes handed x .code)
-      go heard.Malformed = inl refl
-      go heard.Nak = inl refl
-      go (heard.Said k) = effect-among (scene handed) (k .order)
+      go : (x : Message) → Among (comes handed x .code)
+      go (heard.refused k) = inl refl
+      go heard.nak = inl refl
+      go (heard.said k) = effect-among (scene handed) (k .order)
 
   code-known : (e : Code) (b : Bool) → Among e → isError e && b ≡ true → AnErrorCode e
   code-known e b (inl q) d = absurd (false≢true (sym (ap (λ (x : Code). isError x && b) q) ∙ d))
@@ -181,7 +181,7 @@ module _ (v : Session) (m f : List ℕ) (bits fresh : ℕ) (room : List ℕ) (s 
           (
             λ e. refusal tag call 6 refl,
             (
-              λ e. refusal tag call 7 refl,
+              λ e. refusal tag call (heard.rowOf (heardOf f bits)) (ap refuses (refused-row f bits e)),
               (
                 λ e. refusal tag call 8 refl,
                 (
