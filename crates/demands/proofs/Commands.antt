@@ -15,8 +15,8 @@ use Rattle.image.specs.Layout.{layoutOf, pairsIn}
 use Rattle.image.proofs.Answers.{check-good, check-0}
 use Rattle.frames.specs.declared.Order.{Order}
 use Rattle.frames.specs.declared.Order.the-variants as order
-use Rattle.frames.specs.declared.Heard.{Heard}
-use Rattle.frames.specs.declared.Heard.the-variants as heard
+use Rattle.frames.specs.Message.{Message}
+use Rattle.frames.specs.Message as heard
 use Rattle.frames.specs.Frames.{span, heardOf}
 use Rattle.replies.specs.declared.Reply.{Reply}
 use Rattle.replies.specs.declared.Reply.the-variants as reply
@@ -96,7 +96,7 @@ module _ (a : Air) (st : State) (r : Register) (idle : Idle (layoutOf (a .image)
   fitting : (rp : Reply) → replyBytes rp ≤ length (a .room) → fits rp (a .room) ≡ true
   fitting rp l = ap not (le-ltb (length (a .room)) (replyBytes rp) l)
 
-  module _ (x : Heard) (h : heardOf (a .frame) (a .bits) ≡ x) (m : malformed x ≡ false) (k : checksumWrong (a .frame) (a .bits) x ≡ false)
+  module _ (x : Message) (h : heardOf (a .frame) (a .bits) ≡ x) (m : malformed x ≡ false) (k : checksumWrong (a .frame) (a .bits) x ≡ false)
       (w : wrong st x ≡ false) (b : broken handed x ≡ false) (e : comes handed x .code ≡ code.Nothing)
       (room : replyBytes (comes handed x .reply) ≤ length (a .room)) (power : length (changeStores (layoutOf (a .image) .work .at) (comes handed x .words)) ≤ a .power) where
     effect-is : effect handed ≡ comes handed x
@@ -174,7 +174,7 @@ module _ (a : Air) (r : Register) (idle : Idle (layoutOf (a .image)) (a .image))
       → breaks (layoutOf (a .image)) (a .image) (linkOf st) (linkOf st .half) (asksOf o .part) ≡ false → at st o .code ≡ code.Nothing → Comes n o st
   unfolding handed given at Comes
   order-done st n o w b e says enough =
-      last-row a st r idle (heard.Said (record { number = n; order = o })) (says .heard) refl (ap not (says .right)) w b e (in-bytes a st r idle (at st o .reply) (enough .0)) (enough .1)
+      last-row a st r idle (heard.said (record { number = n; order = o })) (says .heard) refl (ap not (says .right)) w b e (in-bytes a st r idle (at st o .reply) (enough .0)) (enough .1)
       ∙ given-done a st r idle (at st o .reply) (at st o .state) (at st o .words)
 
   secured-done : (k : Link) (o : Order) → asksOf o .cover && not (isCovered (k .cover)) ≡ false → asksOf o .bad ≡ false
@@ -190,9 +190,9 @@ module _ (a : Air) (r : Register) (idle : Idle (layoutOf (a .image)) (a .image))
   unbroken k (half.Access up) = refl
   unbroken k (half.Kill up) = refl
 
-  nak-done : (st : State) → st ≢ state.Killed → heardOf (a .frame) (a .bits) ≡ heard.Nak → hears answerOf a (on st false r) ≡ done (layoutOf (a .image)) a r state.Arbitrate reply.Silence []
+  nak-done : (st : State) → st ≢ state.Killed → heardOf (a .frame) (a .bits) ≡ heard.nak → hears answerOf a (on st false r) ≡ done (layoutOf (a .image)) a r state.Arbitrate reply.Silence []
   unfolding handed given
-  nak-done st k e = last-row a st r idle heard.Nak e refl refl (not-killed st k) refl refl (omega arith) (omega arith)
+  nak-done st k e = last-row a st r idle heard.nak e refl refl (not-killed st k) refl refl (omega arith) (omega arith)
 
   some : (n : ℕ) → 1 ≤ n → eqb n 0 ≡ false
   some n l = ne-eqb n 0 (λ e. omega arith)

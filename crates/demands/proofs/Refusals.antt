@@ -20,8 +20,8 @@ use Rattle.image.proofs.Answers.{check-good, check-0}
 use Rattle.frames.specs.declared.Span.{Span}
 use Rattle.frames.specs.declared.Order.{Order}
 use Rattle.frames.specs.declared.Order.the-variants as order
-use Rattle.frames.specs.declared.Heard.{Heard}
-use Rattle.frames.specs.declared.Heard.the-variants as heard
+use Rattle.frames.specs.Message.{Message}
+use Rattle.frames.specs.Message as heard
 use Rattle.frames.specs.Frames.{span, heardOf}
 use Rattle.frames.proofs.Orders.{said-small}
 use Rattle.replies.specs.declared.Reply.{Reply}
@@ -51,7 +51,7 @@ use Rattle.states.specs.Commands.{isArbitrate, isKilled, asksOf, linkOf, isCove
 use Rattle.states.specs.Steps.{asks}
 use Rattle.plans.specs.Effects.{Scene, effectOf}
 use Rattle.tag.specs.Table.{Input, input, malformed, checksumWrong, broken, comes, effect, storesOf, isError, replyOr, replyOf, fits, replied, everything, rows, frameOf, liveOf, isOff, admitOf}
-use Rattle.tag.specs.Power.{started, powerUpOf}
+use Rattle.tag.specs.Power.{powerRows, powered, powerUpOf}
 use Rattle.tag.specs.Port.{badCount, badData, refusals, registerTo, withKilled, withUnwritten, someUnwritten, readBits, portWords, askOf, releaseOf, registerOf, readOf, writeOf}
 use Rattle.demands.specs.Calls.{Call, asked, powerUp, ask, read, write, answerOf, Idle}
 use Rattle.demands.specs.Commands.{Air, hears, linked, link, Says}
@@ -132,16 +132,16 @@ module _ (y : Layout) (a : Air) (st : State) (r : Register) (idle : Idle y (a .i
       (c .0, (c .1, (c .2, (ap not (eq-eqb (countIn (layoutOf (a .image)) (a .image)) 0 z), (refl, h)))))
 
   -- the rows from 7 on: 7, 8, 9, 12, and 10
-  row-7 : heardOf (a .frame) (a .bits) ≡ heard.Malformed → hears answerOf a (on st false r) ≡ stays 7 a (on st false r)
+  row-7 : heardOf (a .frame) (a .bits) ≡ heard.refused 7 → hears answerOf a (on st false r) ≡ stays 7 a (on st false r)
   unfolding frameOf handed last
   row-7 h = first-at 5 (rows handed) (last handed) (ready 0 (drop 5 (rows handed)) (ap malformed h))
 
-  row-8 : (x : Heard) → heardOf (a .frame) (a .bits) ≡ x → malformed x ≡ false → checksumWrong (a .frame) (a .bits) x ≡ true
+  row-8 : (x : Message) → heardOf (a .frame) (a .bits) ≡ x → malformed x ≡ false → checksumWrong (a .frame) (a .bits) x ≡ true
       → hears answerOf a (on st false r) ≡ stays 8 a (on st false r)
   unfolding frameOf handed last
   row-8 x h m e = first-at 6 (rows handed) (last handed) (ready 1 (drop 5 (rows handed)) (ap malformed h ∙ m, ap (checksumWrong (a .frame) (a .bits)) h ∙ e))
 
-  module _ (x : Heard) (h : heardOf (a .frame) (a .bits) ≡ x) (m : malformed x ≡ false) (k : checksumWrong (a .frame) (a .bits) x ≡ false) where
+  module _ (x : Message) (h : heardOf (a .frame) (a .bits) ≡ x) (m : malformed x ≡ false) (k : checksumWrong (a .frame) (a .bits) x ≡ false) where
     row-9 : wrong st x ≡ true → hears answerOf a (on st false r) ≡ stays 9 a (on st false r)
     unfolding frameOf handed last
     row-9 e = first-at 7 (rows handed) (last handed) (ready 2 (drop 5 (rows handed)) (ap malformed h ∙ m, (ap (checksumWrong (a .frame) (a .bits)) h ∙ k, ap (wrong st) h ∙ e)))
@@ -168,7 +168,7 @@ module _ (y : Layout) (a : Air) (st : State) (r : Register) (idle : Idle y (a .i
         → hears answerOf a (on st false r) ≡ replied-as (reply.Error e (linkOf st .handle))
     unfolding frameOf handed last replied-as
     row-10 e w b c l =
-        let code-is : effect handed .code ≡ code.Error e = ap (λ (z : Heard). comes handed z .code) h ∙ c in
+        let code-is : effect handed .code ≡ code.Error e = ap (λ (z : Message). comes handed z .code) h ∙ c in
         let reply-is : replyOf handed ≡ reply.Error e (linkOf st .handle) = ap (λ (q : Code). replyOr q (linkOf st .handle) (effect handed .reply)) code-is in
         first-at 9 (rows handed) (last handed)
         (ready 4 (drop 5 (rows handed)) (
@@ -285,7 +285,7 @@ module _ (h : ℕ) (c : Cover) (p : Half) where
 -- the frame's refusals, line by line; the layout is the image's
 module _ (a : Air) (r : Register) (idle : Idle (layoutOf (a .image)) (a .image)) where
   says-9 : (st : State) (n : ℕ) (o : Order) → Says a n o → wrongBy st n (asksOf o) ≡ true → hears answerOf a (on st false r) ≡ stays 9 a (on st false r)
-  says-9 st n o s e = row-9 (layoutOf (a .image)) a st r idle (heard.Said (record { number = n; order = o })) (s .heard) refl (ap not (s .right)) e
+  says-9 st n o s e = row-9 (layoutOf (a .image)) a st r idle (heard.said (record { number = n; order = o })) (s .heard) refl (ap not (s .right)) e
 
   early : (o : Order) → o ≢ order.ReqRn → asksOf o .early ≡ false
   early order.ReqRn d = absurd (d refl)
@@ -310,7 +310,7 @@ module _ (a : Air) (r : Register) (idle : Idle (layoutOf (a .image)) (a .image))
       record {
         arbitrate = λ n o s. says-9 state.Arbitrate n o s refl;
         killed = λ n o s. says-9 state.Killed n o s refl;
-        killed-nak = λ h. row-9 (layoutOf (a .image)) a state.Killed r idle heard.Nak h refl refl refl;
+        killed-nak = λ h. row-9 (layoutOf (a .image)) a state.Killed r idle heard.nak h refl refl refl;
         admission = λ m n o s d. says-9 (state.Acknowledged m) n o s (not-admitted m n o d);
         handle = λ q h c p n o s d. says-9 (linked q (link h c p)) n o s (unfit q h c p n o d);
       }
@@ -325,10 +325,10 @@ module _ (a : Air) (r : Register) (idle : Idle (layoutOf (a .image)) (a .image))
       → hears answerOf a (on (linked q (link h c p)) false r) ≡ drops a r
   unfolding handed
   says-12 q h c p o s f e =
-      row-12 (layoutOf (a .image)) a (linked q (link h c p)) r idle (heard.Said (record { number = h; order = o })) (s .heard) refl (ap not (s .right))
+      row-12 (layoutOf (a .image)) a (linked q (link h c p)) r idle (heard.said (record { number = h; order = o })) (s .heard) refl (ap not (s .right))
       (has-right h c p q (asksOf o) (has o q c f)) (go q)
     where
-      go : (q : Bool) → broken (handed (layoutOf (a .image)) a (linked q (link h c p)) r idle) (heard.Said (record { number = h; order = o })) ≡ true
+      go : (q : Bool) → broken (handed (layoutOf (a .image)) a (linked q (link h c p)) r idle) (heard.said (record { number = h; order = o })) ≡ true
       go true = e
       go false = e
 
@@ -410,8 +410,8 @@ module _ (a : Air) (r : Register) (idle : Idle (layoutOf (a .image)) (a .image))
   unfolding handed replied-as scene-in
   says-10 q h c o e s f l d = go q f d
     where
-      x : Heard
-      x = heard.Said (record { number = h; order = o })
+      x : Message
+      x = heard.said (record { number = h; order = o })
 
       go : (q : Bool) → Needs q c o → codeBy q c o ≡ code.Error e → hears answerOf a (on (linked q (link h c half.Nothing)) false r) ≡ errs a r q h half.Nothing e
       go true f d =
@@ -661,7 +661,7 @@ own-idle y m idle = subst (λ (z : Layout). Idle z m) (own-layout y m idle) idle
 
 start-refused : (m : List ℕ) (s : Session) (n u : ℕ) → checkOf m ≡ refused n → asked answerOf s m (powerUp u) ≡ leaves n offSession m []
 unfolding powerUpOf
-start-refused m s n u e = image-first m (λ k. leaves k offSession m []) [] (started (layoutOf m) m u) n e
+start-refused m s n u e = image-first m (λ k. leaves k offSession m []) (drop 3 (powerRows m u)) (powered m) n e
 
 pub when-refused : Refusals answerOf
 when-refused =
@@ -670,7 +670,7 @@ when-refused =
       unheard = λ y a st r idle.
           record {
             malformed = row-7 y a st r idle;
-            checksum = λ c h e. row-8 y a st r idle (heard.Said c) h refl (ap not e);
+            checksum = λ c h e. row-8 y a st r idle (heard.said c) h refl (ap not e);
           };
       wrong = λ y a r idle. wrongs a r (own-idle y (a .image) idle);
       dropped = λ y a r idle. subst (λ (z : Layout). Dropped answerOf z a r) (sym (own-layout y (a .image) idle)) (drop-lines a r (own-idle y (a .image) idle));

@@ -12,8 +12,8 @@ use Rattle.image.specs.declared.Layout.{Layout}
 use Rattle.image.specs.Layout.{layoutOf}
 use Rattle.frames.specs.declared.Order.{Order}
 use Rattle.frames.specs.declared.Order.the-variants as order
-use Rattle.frames.specs.declared.Heard.{Heard}
-use Rattle.frames.specs.declared.Heard.the-variants as heard
+use Rattle.frames.specs.Message.{Message}
+use Rattle.frames.specs.Message as heard
 use Rattle.frames.specs.Frames.{heardOf}
 use Rattle.states.specs.declared.Half.{Half}
 use Rattle.states.specs.declared.Half.the-variants as half
@@ -89,10 +89,10 @@ rising t (frame f bits fresh room s) = go (heardOf f bits)
     i : Input
     i = input (t .session) (t .image) f bits fresh room s
 
-    go : (x : Heard) → Rising (comes i x .words)
-    go heard.Malformed = tt
-    go heard.Nak = tt
-    go (heard.Said c) = rising-order (scene i) (c .order)
+    go : (x : Message) → Rising (comes i x .words)
+    go (heard.refused k) = tt
+    go heard.nak = tt
+    go (heard.said c) = rising-order (scene i) (c .order)
 rising t ask = tt
 rising t release = tt
 rising t register = tt

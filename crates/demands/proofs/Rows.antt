@@ -17,8 +17,8 @@ use Rattle.image.specs.Layout.{layoutOf, pairsIn}
 use Rattle.image.specs.Content.{countIn}
 use Rattle.image.specs.Rules.{Good}
 use Rattle.frames.specs.declared.Command.{Command}
-use Rattle.frames.specs.declared.Heard.{Heard}
-use Rattle.frames.specs.declared.Heard.the-variants as heard
+use Rattle.frames.specs.Message.{Message}
+use Rattle.frames.specs.Message as heard
 use Rattle.frames.specs.Frames.{heardOf}
 use Rattle.frames.proofs.Orders.{said-small}
 use Rattle.replies.specs.declared.Reply.{Reply}
@@ -30,7 +30,7 @@ use Rattle.tag.specs.Result.{Result, gives}
 use Rattle.states.specs.Commands.{isKilled, linkOf}
 use Rattle.plans.specs.Effects.{Effect}
 use Rattle.tag.specs.Session.{offSession}
-use Rattle.tag.specs.Table.{Input, input, isOff, liveOf, broken, comes, effect, replyOr, isError, replyOf, fits, storesOf, replied, cut, rows, frameOf}
+use Rattle.tag.specs.Table.{Input, input, isOff, liveOf, malformed, broken, comes, effect, replyOr, isError, replyOf, fits, storesOf, replied, cut, rows, frameOf}
 use Rattle.tag.specs.Port.{badCount, badData, portWords, refusals, registerTo, withKilled, withUnwritten, someUnwritten, writeOf}
 use Rattle.tag.proofs.Plans.{none-or}
 use Rattle.demands.specs.Calls.{Tag, answerOf, wordsIn}
@@ -131,11 +131,11 @@ no-error (code.Error e) b p q =
     absurd (true≢false (sym q ∙ p))
 
 -- two functions of what was heard, case by case
-pub heard-same : {A : Type 0} (f g : Heard → A) → f heard.Malformed ≡ g heard.Malformed → f heard.Nak ≡ g heard.Nak → ((c : Command) → f (heard.Said c) ≡ g (heard.Said c))
-    → (x : Heard) → f x ≡ g x
-heard-same f g p q r heard.Malformed = p
-heard-same f g p q r heard.Nak = q
-heard-same f g p q r (heard.Said c) = r c
+pub heard-same : {A : Type 0} (f g : Message → A) → ((k : ℕ) → f (heard.refused k) ≡ g (heard.refused k)) → f heard.nak ≡ g heard.nak → ((c : Command) → f (heard.said c) ≡ g (heard.said c))
+    → (x : Message) → f x ≡ g x
+heard-same f g p q r (heard.refused k) = p k
+heard-same f g p q r heard.nak = q
+heard-same f g p q r (heard.said c) = r c
 
 -- a frame
 module _ (v : Session) (m f : List ℕ) (bits fresh : ℕ) (room : List ℕ) (g : Good (layoutOf m) m) where
@@ -164,13 +164,13 @@ module _ (v : Session) (m f : List ℕ) (bits fresh : ℕ) (room : List ℕ) (g 
 
   -- the power matters to none of these
   module _ (a b : ℕ) where
-    same-broken : (x : Heard) → broken (with-power a) x ≡ broken (with-power b) x
+    same-broken : (x : Message) → broken (with-power a) x ≡ broken (with-power b) x
     unfolding with-power
-    same-broken = heard-same (broken (with-power a)) (broken (with-power b)) refl refl (λ c. refl)
+    same-broken = heard-same (broken (with-power a)) (broken (with-power b)) (λ k. refl) refl (λ c. refl)
 
-    same-comes : (x : Heard) → comes (with-power a) x ≡ comes (with-power b) x
+    same-comes : (x : Message) → comes (with-power a) x ≡ comes (with-power b) x
     unfolding with-power
-    same-comes = heard-same (comes (with-power a)) (comes (with-power b)) refl refl (λ c. refl)
+    same-comes = heard-same (comes (with-power a)) (comes (with-power b)) (λ k. refl) refl (λ c. refl)
 
     same-effect : effect (with-power a) ≡ effect (with-power b)
     unfolding with-power
@@ -222,10 +222,10 @@ module _ (v : Session) (m f : List ℕ) (bits fresh : ℕ) (room : List ℕ) (g 
       (no-error (effect (with-power 0) .code) (fits (replyOf (with-power 0)) room) (h .1 .1 .1 .1 .1 .1 .1 .1 .1 .0)
       (not-false (fits (replyOf (with-power 0)) room) (h .1 .1 .1 .1 .1 .1 .1 .1 .1 .1 .0)))
     where
-      go : (x : Heard) → heardOf f bits ≡ x → comes (with-power 0) x .code ≡ code.Nothing → Plan (layoutOf m) m (comes (with-power 0) x .words)
-      go heard.Malformed q e = no-plan (layoutOf m) m
-      go heard.Nak q e = no-plan (layoutOf m) m
-      go (heard.Said c) q e = order-plan (layoutOf m) m g (liveOf (v .power) .state) f fresh (c .order) (said-small f bits c q) e
+      go : (x : Message) → heardOf f bits ≡ x → comes (with-power 0) x .code ≡ code.Nothing → Plan (layoutOf m) m (comes (with-power 0) x .words)
+      go (heard.refused k) q e = no-plan (layoutOf m) m
+      go heard.nak q e = no-plan (layoutOf m) m
+      go (heard.said c) q e = order-plan (layoutOf m) m g (liveOf (v .power) .state) f fresh (c .order) (said-small f bits c q) e
 
   front-idle : None (front 0) → countIn (layoutOf m) m ≡ 0
   unfolding with-power front
@@ -358,8 +358,8 @@ pub words-told : (t : Tag) (c : Storing) (s : ℕ) → wordsIn t (told c s) ≡ 
 unfolding wordsOf
 words-told t (byRadio f bits fresh room) s = go (heardOf f bits)
   where
-    go : (x : Heard) → comes (input (t .session) (t .image) f bits fresh room s) x .words ≡ comes (input (t .session) (t .image) f bits fresh room 0) x .words
-    go heard.Malformed = refl
-    go heard.Nak = refl
-    go (heard.Said c) = refl
+    go : (x : Message) → comes (input (t .session) (t .image) f bits fresh room s) x .words ≡ comes (input (t .session) (t .image) f bits fresh room 0) x .words
+    go (heard.refused k) = refl
+    go heard.nak = refl
+    go (heard.said c) = refl
 words-told t (byPort at d) s = refl

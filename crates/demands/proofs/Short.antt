@@ -16,8 +16,7 @@ use Rattle.image.specs.Layout.{layoutOf}
 use Rattle.image.specs.Check.{checkOf, good}
 use Rattle.image.specs.Rules.{Good}
 use Rattle.image.proofs.Answers.{check-good}
-use Rattle.frames.specs.declared.Heard.{Heard}
-use Rattle.frames.specs.declared.Heard.the-variants as heard
+use Rattle.frames.specs.Message.{Message}
 use Rattle.frames.specs.Frames.{heardOf}
 use Rattle.replies.specs.declared.Reply.{Reply}
 use Rattle.replies.specs.Replies.{replyLength, replyBytes}
@@ -102,13 +101,13 @@ module _ (v : Session) (m f : List ℕ) (bits fresh : ℕ) where
 
   -- room and power matter to nothing before, and not to the reply
   module _ (a b : List ℕ) (p q : ℕ) where
-    same-broken : (x : Heard) → broken (at a p) x ≡ broken (at b q) x
+    same-broken : (x : Message) → broken (at a p) x ≡ broken (at b q) x
     unfolding at
-    same-broken = heard-same (broken (at a p)) (broken (at b q)) refl refl (λ c. refl)
+    same-broken = heard-same (broken (at a p)) (broken (at b q)) (λ k. refl) refl (λ c. refl)
 
-    same-comes : (x : Heard) → comes (at a p) x ≡ comes (at b q) x
+    same-comes : (x : Message) → comes (at a p) x ≡ comes (at b q) x
     unfolding at
-    same-comes = heard-same (comes (at a p)) (comes (at b q)) refl refl (λ c. refl)
+    same-comes = heard-same (comes (at a p)) (comes (at b q)) (λ k. refl) refl (λ c. refl)
 
     same-reply : replyOf (at a p) ≡ replyOf (at b q)
     unfolding at

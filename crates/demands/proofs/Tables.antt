@@ -1,6 +1,6 @@
 -- Demand 1: each promise allows one outcome, and each answer leaves what the table says. Assumes nothing.
 use Prim.Native.Nat.{ℕ, _*_, _/_, _≤_, _<_}
-use mathlib.Core.Path.{_≡_, refl, sym, ap, _∙_}
+use mathlib.Core.Path.{_≡_, refl, sym, ap, subst, _∙_}
 use mathlib.Core.Logic.{inl, inr, ⊎-elim}
 use mathlib.Core.Bool.{false≢true, Bool, true, false, cond, not, _&&_, _||_}
 use mathlib.Core.List.{List, [], _∷_, _++_}
@@ -10,6 +10,7 @@ use lib.ListN.{length, take}
 use borrow.Author.Tests.{eqb-true, leb-true, ltb-true, eq-eqb, ne-eqb, lt-ltb, le-ltb}
 use Rattle.bits.specs.Words.{after}
 use Rattle.bits.specs.Bits.{wordsBits}
+use Rattle.bits.specs.First.{first}
 use Rattle.bits.proofs.Below.{and-right, or-cases}
 use Rattle.image.specs.Layout.{layoutOf, within, headerGood}
 use Rattle.image.specs.Content.{contentGood}
@@ -19,8 +20,8 @@ use Rattle.image.proofs.Answers.{check-good, good-check}
 use Rattle.image.specs.declared.Fit.{Fit}
 use Rattle.image.specs.declared.Fit.the-variants as fit
 use Rattle.image.specs.Check.{checkOf, Checked, refused, good, meaning, imageRows}
-use Rattle.frames.specs.declared.Heard.{Heard}
-use Rattle.frames.specs.declared.Heard.the-variants as heard
+use Rattle.frames.specs.Message.{Message}
+use Rattle.frames.specs.Message as heard
 use Rattle.frames.specs.Frames.{heardOf}
 use Rattle.replies.specs.declared.Reply.{Reply}
 use Rattle.replies.specs.declared.Reply.the-variants as reply
@@ -37,11 +38,11 @@ use Rattle.tag.specs.Result.{Result, leaves, gives}
 use Rattle.tag.specs.One.{one-outcome}
 use Rattle.states.specs.Commands.{linkOf, isKilled, used, isArbitrate, isLinked}
 use Rattle.tag.specs.Power.{powerRows, powered, powerUpOf}
-use Rattle.tag.specs.Table.{Input, input, scene, comes, stateOf, liveOf, isOff, isError, effect, replyOr, replyOf, fits, storesOf, movedTo, dropped, replied, rows, frameOf, answered, admitOf}
-use Rattle.tag.specs.Port.{heldTo, told, askOf, releaseOf, registerOf, badCount, badData, readBits, portWords, someUnwritten, registerTo, withKilled, withUnwritten, refusals, readOf, writeOf}
-use Rattle.demands.specs.Calls.{Call, powerUp, admit, frame, ask, release, register, read, write, Tag, answerOf, sessionIn, imageIn, roomIn, powerIn, storesIn, valueIn}
-use Rattle.demands.specs.Demands.{refuses, AnErrorCode, Tabled, Checks, Demand1}
-use Rattle.demands.proofs.Rows.{Each, first-each}
+use Rattle.tag.specs.Table.{Input, input, scene, comes, stateOf, liveOf, isError, effect, replyOr, replyOf, fits, dropped, replied, rows, done, frameOf, admitRows, admitted, admitOf}
+use Rattle.tag.specs.Port.{askRows, granted, askOf, holderRows, released, releaseOf, told, registerOf, readBits, readRows, shown, readOf, writeRows, written, writeOf}
+use Rattle.demands.specs.Calls.{Call, powerUp, admit, frame, ask, release, register, read, write, Tag, answerOf, sessionIn, imageIn, roomIn, powerIn, storesIn, valueIn, rowsIn, doneIn}
+use Rattle.demands.specs.Demands.{refuses, AnErrorCode, Tabled, Checks, orderOf, numbersOf, Under, Exact, Demand1}
+use Rattle.demands.proofs.Rows.{Rows, Each, first-each}
 use Rattle.demands.proofs.Codes.{Among, effect-among}
 
 refusal-small : (n : ℕ) → refuses n ≡ true → n ≤ 13
@@ -129,10 +130,10 @@ module _ (v : Session) (m f : List ℕ) (bits fresh : ℕ) (room : List ℕ) (s 
   unfolding handed
   heard-among = go (heardOf f bits)
     where
-      go : (x : Heard) → Among (comes handed x .code)
-      go heard.Malformed = inl refl
-      go heard.Nak = inl refl
-      go (heard.Said k) = effect-among (scene handed) (k .order)
+      go : (x : Message) → Among (comes handed x .code)
+      go (heard.refused k) = inl refl
+      go heard.nak = inl refl
+      go (heard.said k) = effect-among (scene handed) (k .order)
 
   code-known : (e : Code) (b : Bool) → Among e → isError e && b ≡ true → AnErrorCode e
   code-known e b (inl q) d = absurd (false≢true (sym (ap (λ (x : Code). isError x && b) q) ∙ d))
@@ -203,8 +204,8 @@ module _ (v : Session) (m f : List ℕ) (bits fresh : ℕ) (room : List ℕ) (s 
   frame-tabled : Tabled tag call (frameOf handed)
   unfolding frameOf tag call handed
   frame-tabled =
-      first-each (Tabled tag call) (rows handed) (replied handed 0 (effect handed .state) (storesOf handed)) frame-rows
-      (zero-answer tag call (replied handed 0 (effect handed .state) (storesOf handed)) refl (silence m room (replyOf handed)) (refl, refl) refl)
+      first-each (Tabled tag call) (rows handed) (done handed) frame-rows
+      (zero-answer tag call (done handed) refl (silence m room (replyOf handed)) (refl, refl) refl)
 
 -- the rows before a transfer's own
 module _ (v : Session) (m : List ℕ) where
@@ -215,7 +216,7 @@ module _ (v : Session) (m : List ℕ) where
   unfolding readOf wordsBits tag-of
   read-tabled at count room =
       let c = read at count room in
-      first-each (Tabled tag-of c) (refusals v m room (badCount (layoutOf m) at count) ++ ((leaves 4 v m room, ltb (length room) (2 * count)) ∷ [])) _
+      first-each (Tabled tag-of c) (readRows v m at count room) (shown v m at count room)
       (λ e. refusal tag-of c 1 refl, (λ e. refusal tag-of c 2 refl, (λ e. refusal tag-of c 3 refl, (λ e. refusal tag-of c 5 refl, (λ e. refusal tag-of c 6 refl, (λ e. refusal tag-of c 13 refl, (λ e. refusal tag-of c 4 refl, tt)))))))
       (zero-answer tag-of c _ refl (λ q. no-words (isKilled (liveOf (v .power) .state)) count (omega (arith, q))) (refl, refl) refl)
     where
@@ -230,13 +231,7 @@ module _ (v : Session) (m : List ℕ) where
   unfolding writeOf tag-of
   write-tabled at d s =
       let c = write at d s in
-      let l = liveOf (v .power) in
-      let y = layoutOf m in
-      let killed = isKilled (l .state) in
-      let stores = changeStores (y .work .at) (portWords y m killed at d) in
-      first-each (Tabled tag-of c)
-      (refusals v m [] (badData y at d) ++ ((gives 11 offSession 0 s (after m (take s stores)) [], ltb s (length stores)) ∷ []))
-      (gives 0 (registerTo l (cond killed (withKilled (l .register)) (withUnwritten (someUnwritten y m at (length d / 2)) (l .register)))) 0 (length stores) (after m stores) [])
+      first-each (Tabled tag-of c) (writeRows v m at d s) (written v m at d)
       (λ e. refusal tag-of c 1 refl, (λ e. refusal tag-of c 2 refl, (λ e. refusal tag-of c 3 refl, (λ e. refusal tag-of c 5 refl, (λ e. refusal tag-of c 6 refl, (λ e. refusal tag-of c 13 refl, (λ e. lost-answer tag-of c (ltb-true _ _ e), tt)))))))
       (zero-answer tag-of c _ refl (λ q. refl) (refl, refl) refl)
 
@@ -245,47 +240,82 @@ module _ (t : Tag) where
   admit-tabled : (n : ℕ) → Tabled t (admit n) (admitOf (t .session) n)
   unfolding admitOf
   admit-tabled n =
-      let s = t .session in
-      let l = liveOf (s .power) in
       let c = admit n in
-      first-each (Tabled t c) ((answered 5 s, isOff (s .power)) ∷ (answered 6 s, l .held) ∷ (answered 9 s, not (isArbitrate (l .state))) ∷ [])
-      (answered 0 (movedTo l (state.Acknowledged n)))
+      first-each (Tabled t c) (admitRows (t .session)) (admitted (t .session) n)
       (λ e. refusal t c 5 refl, (λ e. refusal t c 6 refl, (λ e. refusal t c 9 refl, tt))) (zero-answer t c _ refl (λ q. refl) (refl, refl) refl)
 
   ask-tabled : Tabled t ask (askOf (t .session))
   unfolding askOf
   ask-tabled =
-      let s = t .session in
-      let l = liveOf (s .power) in
-      first-each (Tabled t ask) ((answered 5 s, isOff (s .power)) ∷ (answered 6 s, l .held || isLinked (l .state)) ∷ []) (answered 0 (heldTo l true))
+      first-each (Tabled t ask) (askRows (t .session)) (granted (t .session))
       (λ e. refusal t ask 5 refl, (λ e. refusal t ask 6 refl, tt)) (zero-answer t ask _ refl (λ q. refl) (refl, refl) refl)
 
   release-tabled : Tabled t release (releaseOf (t .session))
   unfolding releaseOf
   release-tabled =
-      let s = t .session in
-      let l = liveOf (s .power) in
-      first-each (Tabled t release) ((answered 5 s, isOff (s .power)) ∷ (answered 6 s, not (l .held)) ∷ []) (answered 0 (heldTo l false))
+      first-each (Tabled t release) (holderRows (t .session)) (released (t .session))
       (λ e. refusal t release 5 refl, (λ e. refusal t release 6 refl, tt)) (zero-answer t release _ refl (λ q. refl) (refl, refl) refl)
 
   register-tabled : Tabled t register (registerOf (t .session))
   unfolding registerOf
   register-tabled =
-      let s = t .session in
-      let l = liveOf (s .power) in
-      first-each (Tabled t register) ((answered 5 s, isOff (s .power)) ∷ (answered 6 s, not (l .held)) ∷ []) (told l)
+      first-each (Tabled t register) (holderRows (t .session)) (told (liveOf (t .session .power)))
       (λ e. refusal t register 5 refl, (λ e. refusal t register 6 refl, tt)) (zero-answer t register _ refl (λ q. refl) (refl, refl) refl)
 
   power-tabled : (s : ℕ) → Tabled t (powerUp s) (powerUpOf (t .image) s)
   unfolding powerUpOf
   power-tabled s =
-      let m = t .image in
-      let stores = powerStores (layoutOf m) m in
       let c = powerUp s in
-      first-each (Tabled t c)
-      (imageRows (λ n. leaves n offSession m []) m ++ ((poweredTo 11 offSession s (after m (take s stores)), ltb s (length stores)) ∷ []))
-      (poweredTo 0 (newSession (firstIn (layoutOf m) (after m stores))) (length stores) (after m stores))
+      first-each (Tabled t c) (powerRows (t .image) s) (powered (t .image))
       (λ e. refusal t c 1 refl, (λ e. refusal t c 2 refl, (λ e. refusal t c 3 refl, (λ e. lost-answer t c (ltb-true _ _ e), tt)))) (zero-answer t c _ refl (λ q. refl) (refl, refl) refl)
+
+-- the first row that holds, of each call's rows
+by-rows : (t : Tag) (c : Call) → answerOf t c ≡ first (rowsIn t c) (doneIn t c)
+unfolding powerUpOf admitOf frameOf askOf releaseOf registerOf readOf writeOf
+by-rows t (powerUp s) = refl
+by-rows t (admit n) = refl
+by-rows t (frame f bits fresh room s) = refl
+by-rows t ask = refl
+by-rows t release = refl
+by-rows t register = refl
+by-rows t (read at count room) = refl
+by-rows t (write at d s) = refl
+
+in-order : (t : Tag) (c : Call) → numbersOf (rowsIn t c) ≡ orderOf c
+in-order t (powerUp s) = refl
+in-order t (admit n) = refl
+in-order t (frame f bits fresh room s) = refl
+in-order t ask = refl
+in-order t release = refl
+in-order t register = refl
+in-order t (read at count room) = refl
+in-order t (write at d s) = refl
+
+last-zero : (t : Tag) (c : Call) → doneIn t c .number ≡ 0
+last-zero t (powerUp s) = refl
+last-zero t (admit n) = refl
+last-zero t (frame f bits fresh room s) = refl
+last-zero t ask = refl
+last-zero t release = refl
+last-zero t register = refl
+last-zero t (read at count room) = refl
+last-zero t (write at d s) = refl
+
+first-under : (rs : Rows) (last : Result) → Under rs last (first rs last)
+first-under [] last = refl
+first-under (r ∷ rs) last = go (r .1) refl (first-under rs last)
+  where
+    go : (b : Bool) → r .1 ≡ b → Under rs last (first rs last) → Under (r ∷ rs) last (cond (r .1) (r .0) (first rs last))
+    go true e u = inl (e, ap (λ (b : Bool). cond b (r .0) (first rs last)) e)
+    go false e u = inr (e, subst (Under rs last) (ap (λ (b : Bool). cond b (r .0) (first rs last)) (sym e)) u)
+
+exact : (t : Tag) (c : Call) → Exact answerOf t c
+exact t c =
+    record {
+      order = in-order t c;
+      zero = last-zero t c;
+      under = subst (Under (rowsIn t c) (doneIn t c)) (sym (by-rows t c)) (first-under (rowsIn t c) (doneIn t c));
+    }
 
 tabled : (t : Tag) (c : Call) → Tabled t c (answerOf t c)
 unfolding tag call handed tag-of
@@ -342,4 +372,5 @@ demand-1 =
       check = λ m p q e f. sym (fit-again p) ∙ ap fitOf (e ∙ sym f) ∙ fit-again q;
       one = λ t c p q m n a b e f. one-outcome p q m n a b (answerOf t c) e f;
       table = tabled;
+      exact = exact;
     }

@@ -1,6 +1,7 @@
 -- The public operations as calls of one tag, and what their promises say of each (RULES 5 and 7.1). Assumes nothing.
 use Prim.Native.Nat.{ℕ, suc}
 use mathlib.Core.Path.{_≡_}
+use mathlib.Core.Bool.{Bool}
 use mathlib.Core.List.{List, [], _∷_}
 use Rattle.bits.specs.Words.{Store}
 use Rattle.image.specs.declared.Layout.{Layout}
@@ -16,9 +17,9 @@ use Rattle.tag.specs.declared.Outcome.{Outcome}
 use Rattle.tag.specs.Session.{offSession}
 use Rattle.tag.specs.Result.{Result, result}
 use Rattle.states.specs.Commands.{isKilled}
-use Rattle.tag.specs.Power.{powerUpOf}
-use Rattle.tag.specs.Table.{input, liveOf, effect, frameOf, admitOf}
-use Rattle.tag.specs.Port.{numberIn, askOf, releaseOf, registerOf, readOf, portWords, writeOf}
+use Rattle.tag.specs.Power.{powerRows, powered, powerUpOf}
+use Rattle.tag.specs.Table.{input, liveOf, effect, rows, done, frameOf, admitRows, admitted, admitOf}
+use Rattle.tag.specs.Port.{askRows, granted, askOf, holderRows, released, releaseOf, numberIn, told, registerOf, readRows, shown, readOf, portWords, writeRows, written, writeOf}
 
 -- what a caller hands over beside the session and the image: a power-up's s; an admission's number; a frame's bytes, bit count, fresh word, room and s;
 -- a read's first word, count and room; a write's first word, data and s
@@ -146,6 +147,27 @@ valueIn t release = 0
 valueIn t register = numberIn (liveOf (t .session .power) .register)
 valueIn t (read at count room) = 0
 valueIn t (write at d s) = 0
+
+-- the table's rows for a call, each what it leaves and when; and what is left where none holds
+abbrev pub rowsIn : Tag → Call → List (Result × Bool)
+rowsIn t (powerUp s) = powerRows (t .image) s
+rowsIn t (admit n) = admitRows (t .session)
+rowsIn t (frame f bits fresh room s) = rows (input (t .session) (t .image) f bits fresh room s)
+rowsIn t ask = askRows (t .session)
+rowsIn t release = holderRows (t .session)
+rowsIn t register = holderRows (t .session)
+rowsIn t (read at count room) = readRows (t .session) (t .image) at count room
+rowsIn t (write at d s) = writeRows (t .session) (t .image) at d s
+
+abbrev pub doneIn : Tag → Call → Result
+doneIn t (powerUp s) = powered (t .image)
+doneIn t (admit n) = admitted (t .session) n
+doneIn t (frame f bits fresh room s) = done (input (t .session) (t .image) f bits fresh room s)
+doneIn t ask = granted (t .session)
+doneIn t release = released (t .session)
+doneIn t register = told (liveOf (t .session .power))
+doneIn t (read at count room) = shown (t .session) (t .image) at count room
+doneIn t (write at d s) = written (t .session) (t .image) at d
 
 -- the image after a call: it stays where the call has none
 abbrev pub imageAfter : Program → Tag → Call → List ℕ

@@ -8,9 +8,8 @@ use Rattle.bits.specs.Words.{wordAt, withWord, Store}
 use Rattle.bits.specs.Bits.{fieldAt, bitsOf, wordsBits}
 use Rattle.bits.specs.Below.{below}
 use Rattle.crc.specs.Crc.{crcOf}
-use Rattle.ebv.specs.declared.Pointer.{Pointer}
-use Rattle.ebv.specs.declared.Pointer.the-variants as pointer
-use Rattle.ebv.specs.Ebv.{pointerAt}
+use Rattle.ebv.specs.Ebv.{Read, pointerAt}
+use Rattle.ebv.specs.Ebv as pointer
 use Rattle.image.specs.Layout.{layoutOf, headerGood, blocksIn}
 use Rattle.image.specs.Content.{rulesHold, contentGood}
 use Rattle.image.specs.Worked.{bytesOf, worked}
@@ -44,9 +43,9 @@ Hold [] = Unit {0}
 Hold (c ∷ cs) = (c .computed ≡ c .expected) × Hold cs
 
 -- a pointer's value and bytes; stores as numbers, place and value of each; the bytes of every word outside WORK after a whole power-up
-abbrev pointed : Pointer → List ℕ
-pointed pointer.Malformed = []
-pointed (pointer.Whole v e) = v ∷ e ∷ []
+abbrev pointed : Read → List ℕ
+pointed (pointer.refused k) = []
+pointed (pointer.whole v e) = v ∷ e ∷ []
 
 abbrev pub flat : List Store → List ℕ
 flat [] = []

@@ -18,7 +18,7 @@ use Rattle.image.specs.Content.{lockWord, killedWord, lengthOf, pcWord, countIn
 use Rattle.image.specs.Check.{checkOf, good}
 use Rattle.frames.specs.declared.Order.{Order}
 use Rattle.frames.specs.declared.Order.the-variants as order
-use Rattle.frames.specs.declared.Heard.the-variants as heard
+use Rattle.frames.specs.Message as heard
 use Rattle.frames.specs.Frames.{span, heardOf, checksumRight}
 use Rattle.replies.specs.declared.Reply.{Reply}
 use Rattle.replies.specs.declared.Reply.the-variants as reply
@@ -85,7 +85,7 @@ Enough y a rp ws = (length (replyBits (a .image) rp) ≤ 8 * length (a .room)) �
 
 -- the frame is the order o with the number n, and its CRC-16 is right
 pub record Says (a : Air) (n : ℕ) (o : Order) : Type 0 where
-  pub heard : heardOf (a .frame) (a .bits) ≡ heard.Said (record { number = n; order = o })
+  pub heard : heardOf (a .frame) (a .bits) ≡ heard.said (record { number = n; order = o })
   pub right : checksumRight (a .frame) (a .bits) ≡ true
 
 -- the order o with the number n, to a tag in the state st: it comes to the state, the reply and the words
@@ -148,7 +148,7 @@ pub record Radio (A : Program) (y : Layout) (a : Air) (r : Register) : Type 0 wh
       (reply.Success h)
       (below (λ j. let i = y .perma .at + p + j in store i (bitOr (wordAt (a .image) i) (fieldAt (a .frame) (at + 16 * j) 16))) n)
   -- NAK: Arbitrate, and no reply
-  pub nak : (st : State) → st ≢ state.Killed → heardOf (a .frame) (a .bits) ≡ heard.Nak → hears A a (on st false r) ≡ done y a r state.Arbitrate reply.Silence []
+  pub nak : (st : State) → st ≢ state.Killed → heardOf (a .frame) (a .bits) ≡ heard.nak → hears A a (on st false r) ≡ done y a r state.Arbitrate reply.Silence []
 
 -- calls without an image, of a tag with any: the gate's admission in Arbitrate with the port free; the port asked for outside Open and Secured, given back, and
 -- its register as a number, cleared

@@ -3,7 +3,7 @@
 use Prim.Native.Nat.{ℕ, _+_, _*_, _/_, _≤_, _<_}
 use mathlib.Core.Path.{_≡_}
 use mathlib.Core.Logic.{_⊎_}
-use mathlib.Core.Bool.{Bool, true, cond, _||_}
+use mathlib.Core.Bool.{Bool, true, false, cond, _||_}
 use mathlib.Core.List.{List, [], _∷_, _++_}
 use lib.Dec.{eqb}
 use lib.ListN.{length, take}
@@ -28,7 +28,7 @@ use Rattle.tag.specs.Session.{offSession}
 use Rattle.tag.specs.Result.{Result, leaves}
 use Rattle.states.specs.Commands.{linkOf, used}
 use Rattle.tag.specs.Table.{liveOf, replyOr, movedTo}
-use Rattle.demands.specs.Calls.{Call, powerUp, frame, write, Tag, Program, asked, Meets, sessionIn, imageIn, roomIn, powerIn, wordsIn, storesIn, codeIn, valueIn, imageAfter, torn, Turn, run, Idle}
+use Rattle.demands.specs.Calls.{Call, powerUp, admit, frame, ask, release, register, read, write, Tag, Program, asked, Meets, sessionIn, imageIn, roomIn, powerIn, wordsIn, storesIn, codeIn, valueIn, rowsIn, doneIn, imageAfter, torn, Turn, run, Idle}
 
 -- DEMAND 1. Every image, frame and SPI transaction that can be handed over gets one answer of the table; a refusal leaves what the table says.
 
@@ -71,11 +71,38 @@ pub record Checks (m : List ℕ) : Type 0 where
   pub header : 32 ≤ length m → (Header (layoutOf m) m → ⊥) → checkOf m ≡ refused 2
   pub content : 32 ≤ length m → Header (layoutOf m) m → (Good (layoutOf m) m → ⊥) → checkOf m ≡ refused 3
 
+-- the order in which each call's answers are asked for
+abbrev pub orderOf : Call → List ℕ
+orderOf (powerUp s) = 1 ∷ 2 ∷ 3 ∷ 11 ∷ []
+orderOf (admit n) = 5 ∷ 6 ∷ 9 ∷ []
+orderOf (frame f bits fresh room s) = 1 ∷ 2 ∷ 3 ∷ 5 ∷ 6 ∷ 7 ∷ 8 ∷ 9 ∷ 12 ∷ 10 ∷ 4 ∷ 11 ∷ []
+orderOf ask = 5 ∷ 6 ∷ []
+orderOf release = 5 ∷ 6 ∷ []
+orderOf register = 5 ∷ 6 ∷ []
+orderOf (read at count room) = 1 ∷ 2 ∷ 3 ∷ 5 ∷ 6 ∷ 13 ∷ 4 ∷ []
+orderOf (write at d s) = 1 ∷ 2 ∷ 3 ∷ 5 ∷ 6 ∷ 13 ∷ 11 ∷ []
+
+abbrev pub numbersOf : List (Result × Bool) → List ℕ
+numbersOf [] = []
+numbersOf (x ∷ xs) = x .0 .number ∷ numbersOf xs
+
+-- r is what the first row that holds leaves, or what is left where none does
+abbrev pub Under : List (Result × Bool) → Result → Result → Type 0
+Under [] last r = r ≡ last
+Under (x ∷ xs) last r = ((x .1 ≡ true) × (r ≡ x .0)) ⊎ ((x .1 ≡ false) × Under xs last r)
+
+-- the table, complete and exact: a call's rows have these numbers in this order, and every call falls under one of them or is answered 0
+pub record Exact (A : Program) (t : Tag) (c : Call) : Type 0 where
+  pub order : numbersOf (rowsIn t c) ≡ orderOf c
+  pub zero : doneIn t c .number ≡ 0
+  pub under : Under (rowsIn t c) (doneIn t c) (A t c)
+
 pub record Demand1 (A : Program) : Type 0 where
   pub check : (m : List ℕ) (p q : Fit) → meaning p ≡ checkOf m → meaning q ≡ checkOf m → p ≡ q
   pub checks : (m : List ℕ) → Checks m
   pub one : (t : Tag) (c : Call) (p q : Outcome) (m n a b : List ℕ) → Meets A t c p m a → Meets A t c q n b → (p ≡ q) × (m ≡ n) × (a ≡ b)
   pub table : (t : Tag) (c : Call) → Tabled t c (A t c)
+  pub exact : (t : Tag) (c : Call) → Exact A t c
 
 -- DEMAND 2 stands in `Commands`: command by command.
 

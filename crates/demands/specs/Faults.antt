@@ -22,8 +22,8 @@ use Rattle.image.specs.Content.{rulesHold, contentGood}
 use Rattle.image.specs.Worked.{worked, workedLayout}
 use Rattle.frames.specs.declared.Order.the-variants as order
 use Rattle.frames.specs.declared.Command.{Command}
-use Rattle.frames.specs.declared.Heard.{Heard}
-use Rattle.frames.specs.declared.Heard.the-variants as heard
+use Rattle.frames.specs.Message.{Message}
+use Rattle.frames.specs.Message as heard
 use Rattle.frames.specs.Frames.{span, heardOf, checksumRight}
 use Rattle.replies.specs.Pack.{filled, packed}
 use Rattle.replies.specs.Replies.{checked}
@@ -73,12 +73,12 @@ nineBeforeEight = behind 6
 abbrev named : ℕ → Link → Link
 named n k = record { handle = n; cover = k .cover; half = k .half }
 
-abbrev numberOr : ℕ → Heard → ℕ
-numberOr n heard.Malformed = n
-numberOr n heard.Nak = n
-numberOr n (heard.Said c) = c .number
+abbrev numberOr : ℕ → Message → ℕ
+numberOr n (heard.refused k) = n
+numberOr n heard.nak = n
+numberOr n (heard.said c) = c .number
 
-abbrev renamed : Session → Heard → Session
+abbrev renamed : Session → Message → Session
 renamed s x = let l = liveOf (s .power) in let k = linkOf (l .state) in movedTo l (withLink (l .state) (named (numberOr (k .handle) x) k))
 
 abbrev pub ignoresHandle : Program
@@ -110,7 +110,7 @@ record Numbers : Type 0 where
   checksum : hears ignoresChecksum (air badSum 66) opened .number ≡ 0
   held : hears hearsWhileHeld (air write3 66) (on (state.Open (link 0x1234 (cover.Number 0x5A5A) half.Nothing)) true clear) .number ≡ 0
   first : hears nineBeforeEight (air badSum 66) arbitrate .number ≡ 9
-  heard : heardOf badSum 66 ≡ heard.Said said
+  heard : heardOf badSum 66 ≡ heard.said said
   wrong : checksumRight badSum 66 ≡ false
 
 numbers : Numbers

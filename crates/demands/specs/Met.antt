@@ -21,7 +21,7 @@ use Rattle.image.specs.Check.{checkOf}
 use Rattle.image.specs.Worked.{worked, workedLayout}
 use Rattle.frames.specs.declared.Order.{Order}
 use Rattle.frames.specs.declared.Order.the-variants as order
-use Rattle.frames.specs.declared.Heard.the-variants as heard
+use Rattle.frames.specs.Message as heard
 use Rattle.frames.specs.Frames.{span, heardOf, checksumRight}
 use Rattle.replies.specs.declared.Reply.{Reply}
 use Rattle.replies.specs.declared.Reply.the-variants as reply
@@ -153,7 +153,7 @@ pub record Met : Type 0 where
   pub permalock-read-right : 0 + 1 ≤ workedLayout .perma .words
   pub permalocks : Comes perma3 83 0x1234 (order.Permalock 0 (span 3 0 1) 35) (reply.Success 0x1234) (store 44 0x1000 ∷ [])
   pub permalocks-right : PermaLockable workedLayout worked 0 1 perma3 35
-  pub nak : heardOf (0xC0 ∷ []) 8 ≡ heard.Nak
+  pub nak : heardOf (0xC0 ∷ []) 8 ≡ heard.nak
   pub engine : (2 + 4 ≤ workedLayout .user .words) × (length fourWords ≡ 8)
   -- demand 3: a Write of one word and an SPI write of four, done; the power-ups after their cuts, whole
   pub radio-done : Stores answerOf workedLayout tag p7 1 5

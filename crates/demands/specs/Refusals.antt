@@ -16,7 +16,7 @@ use Rattle.frames.specs.declared.Span.{Span}
 use Rattle.frames.specs.declared.Order.{Order}
 use Rattle.frames.specs.declared.Order.the-variants as order
 use Rattle.frames.specs.declared.Command.{Command}
-use Rattle.frames.specs.declared.Heard.the-variants as heard
+use Rattle.frames.specs.Message as heard
 use Rattle.frames.specs.Frames.{span, heardOf, checksumRight}
 use Rattle.replies.specs.declared.Reply.the-variants as reply
 use Rattle.replies.specs.Replies.{replyBits}
@@ -105,15 +105,15 @@ pub record Unready (A : Program) (a : Air) : Type 0 where
 
 -- 7 and 8: a frame that is none, or has a wrong CRC-16
 pub record Unheard (A : Program) (a : Air) (st : State) (r : Register) : Type 0 where
-  pub malformed : heardOf (a .frame) (a .bits) ≡ heard.Malformed → hears A a (on st false r) ≡ stays 7 a (on st false r)
-  pub checksum : (c : Command) → heardOf (a .frame) (a .bits) ≡ heard.Said c → checksumRight (a .frame) (a .bits) ≡ false
+  pub malformed : heardOf (a .frame) (a .bits) ≡ heard.refused 7 → hears A a (on st false r) ≡ stays 7 a (on st false r)
+  pub checksum : (c : Command) → heardOf (a .frame) (a .bits) ≡ heard.said c → checksumRight (a .frame) (a .bits) ≡ false
       → hears A a (on st false r) ≡ stays 8 a (on st false r)
 
 -- 9: a command that the session is not in a state for
 pub record Wrong (A : Program) (a : Air) (r : Register) : Type 0 where
   pub arbitrate : (n : ℕ) (o : Order) → Says a n o → hears A a (on state.Arbitrate false r) ≡ stays 9 a (on state.Arbitrate false r)
   pub killed : (n : ℕ) (o : Order) → Says a n o → hears A a (on state.Killed false r) ≡ stays 9 a (on state.Killed false r)
-  pub killed-nak : heardOf (a .frame) (a .bits) ≡ heard.Nak → hears A a (on state.Killed false r) ≡ stays 9 a (on state.Killed false r)
+  pub killed-nak : heardOf (a .frame) (a .bits) ≡ heard.nak → hears A a (on state.Killed false r) ≡ stays 9 a (on state.Killed false r)
   -- another number than the admission's, or another command than Req_RN
   pub admission : (m n : ℕ) (o : Order) → Says a n o → (n ≢ m) ⊎ (o ≢ order.ReqRn)
       → hears A a (on (state.Acknowledged m) false r) ≡ stays 9 a (on (state.Acknowledged m) false r)

@@ -7,9 +7,7 @@ use native.Mathlib.Numerals.{add-one}
 use native.Mathlib.Omega.{arith}
 use borrow.Author.Tests.{lt-ltb, le-ltb}
 use Rattle.bits.specs.Bits.{fieldAt}
-use Rattle.ebv.specs.declared.Pointer.{Pointer}
-use Rattle.ebv.specs.declared.Pointer.the-variants.{Whole, Malformed}
-use Rattle.ebv.specs.Ebv.{groups}
+use Rattle.ebv.specs.Ebv.{Read, refused, whole, groups}
 
 -- the value of k groups stays small
 pub small : (k : ℕ) → k < 3 → 128 ^ k ≤ 16384
@@ -22,20 +20,20 @@ pub grows : (k acc g : ℕ) → acc < 128 ^ k → g < 256 → acc * 128 + (g - 1
 grows k acc g h l = rw (add-one k, pow-suc 128 k) (omega arith)
 
 -- what the groups that are left give, at each way out of a turn and at the end of the turns
-module _ (m : List ℕ) (n i k acc : ℕ) {w : Pointer} where
+module _ (m : List ℕ) (n i k acc : ℕ) {w : Read} where
   module _ (h : k < 3) (e : groups m n i k acc (3 - k) ≡ w) where
     turn : groups m n i k acc (suc (3 - (k + 1))) ≡ w
     turn = let z : 3 - k ≡ suc (3 - (k + 1)) = omega arith in rw z at e
 
-    pub short : n < i + 8 * k + 8 → Malformed ≡ w
+    pub short : n < i + 8 * k + 8 → refused 7 ≡ w
     short l = simp (lt-ltb _ _ l) at turn
 
-    pub ends : (g : ℕ) → g ≡ fieldAt m (i + 8 * k) 8 → i + 8 * k + 8 ≤ n → g < 128 → Whole (acc * 128 + g) (k + 1) ≡ w
+    pub ends : (g : ℕ) → g ≡ fieldAt m (i + 8 * k) 8 → i + 8 * k + 8 ≤ n → g < 128 → whole (acc * 128 + g) (k + 1) ≡ w
     ends g p l s = rw p (simp (le-ltb _ _ l, lt-ltb _ _ (rw p at s)) at turn)
 
     pub goes : (g : ℕ) → g ≡ fieldAt m (i + 8 * k) 8 → i + 8 * k + 8 ≤ n → 128 ≤ g
         → groups m n i (k + 1) (acc * 128 + (g - 128)) (3 - (k + 1)) ≡ w
     goes g p l s = rw p (simp (le-ltb _ _ l, le-ltb _ _ (rw p at s)) at turn)
 
-  pub none : 3 ≤ k → groups m n i k acc (3 - k) ≡ w → Malformed ≡ w
+  pub none : 3 ≤ k → groups m n i k acc (3 - k) ≡ w → refused 7 ≡ w
   none h e = let z : 3 - k ≡ 0 = omega arith in rw z at e

@@ -5,17 +5,27 @@ use mathlib.Core.List.{List}
 use lib.Dec.{ltb}
 use Rattle.bits.specs.Bits.{fieldAt}
 use Rattle.ebv.specs.declared.Pointer.{Pointer}
-use Rattle.ebv.specs.declared.Pointer.the-variants.{Whole, Malformed}
+use Rattle.ebv.specs.declared.Pointer.the-variants as pointer
+
+-- a number of the answer table, or the value and the bytes that it took
+pub data Read : Type 0 where
+  refused : ℕ → Read
+  whole : ℕ → ℕ → Read
+
+-- the number and values of each answer in the code
+abbrev pub meaning : Pointer → Read
+meaning pointer.Malformed = refused 7
+meaning (pointer.Whole v e) = whole v e
 
 -- the pointer that begins at bit i of the n bits of m, after k groups with the value acc, with at most so many groups to come
-abbrev pub groups : List ℕ → ℕ → ℕ → ℕ → ℕ → ℕ → Pointer
-groups m n i k acc zero = Malformed
+abbrev pub groups : List ℕ → ℕ → ℕ → ℕ → ℕ → ℕ → Read
+groups m n i k acc zero = refused 7
 groups m n i k acc (suc more) =
     let here = i + 8 * k in
     let g = fieldAt m here 8 in
-    cond (ltb n (here + 8)) Malformed
-    (cond (ltb g 128) (Whole (acc * 128 + g) (k + 1)) (groups m n i (k + 1) (acc * 128 + (g - 128)) more))
+    cond (ltb n (here + 8)) (refused 7)
+    (cond (ltb g 128) (whole (acc * 128 + g) (k + 1)) (groups m n i (k + 1) (acc * 128 + (g - 128)) more))
 
 -- the pointer that begins at bit i of the n bits of m: one to three groups
-unfoldable pub pointerAt : List ℕ → ℕ → ℕ → Pointer
+unfoldable pub pointerAt : List ℕ → ℕ → ℕ → Read
 pointerAt m n i = groups m n i 0 0 3

@@ -1,7 +1,7 @@
 // EBV-8 pointers of a frame (RULES 3.6).
 ghost use mathlib.Core.Path.{_≡_};
 ghost use Prim.Native.Nat.{_^_, _<_};
-ghost use Rattle.ebv.specs.Ebv.{pointerAt};
+ghost use Rattle.ebv.specs.Ebv.{meaning, pointerAt};
 
 pub enum Pointer {
     // The value, and how many bytes it took.
@@ -13,7 +13,7 @@ pub enum Pointer {
 // The pointer that begins at bit `at` of a frame of n bits.
 pub fn read(frame: &[u8], n: usize, at: usize) -> Pointer
     requires { ⌜ at < 2 ^ 61 ⌝ }
-    ensures { λ r. ⌜ r ≡ pointerAt (now (frame .entry)) n at ⌝ }
+    ensures { λ r. ⌜ meaning r ≡ pointerAt (now (frame .entry)) n at ⌝ }
 {
     let mut k: usize = 0;
     let mut acc: u32 = 0;

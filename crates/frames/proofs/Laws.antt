@@ -9,18 +9,17 @@ use lib.Dec.{eqb, ltb}
 use lib.ListN.{length}
 use borrow.Author.Tests.{eqb-true}
 use Rattle.bits.specs.Bits.{fieldAt}
-use Rattle.ebv.specs.declared.Pointer.{Pointer}
-use Rattle.ebv.specs.declared.Pointer.the-variants as pointer
-use Rattle.ebv.specs.Ebv.{pointerAt}
+use Rattle.ebv.specs.Ebv.{Read, pointerAt}
+use Rattle.ebv.specs.Ebv as pointer
 use Rattle.frames.specs.declared.Span.{Span}
 use Rattle.frames.specs.declared.Order.{Order}
 use Rattle.frames.specs.declared.Order.the-variants as order
 use Rattle.frames.specs.declared.Command.{Command}
-use Rattle.frames.specs.declared.Heard.{Heard}
-use Rattle.frames.specs.declared.Heard.the-variants as heard
+use Rattle.frames.specs.Message.{Message}
+use Rattle.frames.specs.Message as heard
 use Rattle.frames.specs.Frames.{exactly, pointed, heardOf}
 use Rattle.frames.proofs.Codes.{beyond}
-use Rattle.frames.proofs.Pointers.{few}
+use Rattle.frames.proofs.Pointers.{Fits, fits}
 
 -- the words that a frame of n bits brings are followed by the number and the CRC-16
 abbrev Brings : ℕ → Order → Type 0
@@ -35,26 +34,26 @@ Brings n (order.BlockErase s) = Unit {0}
 Brings n (order.ReadPermalock r s) = Unit {0}
 Brings n (order.Permalock r s p) = (p + 16 * s .count + 32 ≡ n) × (p ≤ 51)
 
-abbrev Sized : ℕ → Heard → Type 0
-Sized n heard.Malformed = Unit {0}
-Sized n heard.Nak = Unit {0}
-Sized n (heard.Said c) = (40 ≤ n) × Brings n (c .order)
+abbrev Sized : ℕ → Message → Type 0
+Sized n (heard.refused k) = Unit {0}
+Sized n heard.nak = Unit {0}
+Sized n (heard.said c) = (40 ≤ n) × Brings n (c .order)
 
 exact-sized : (m : List ℕ) (n k : ℕ) (o : Order) → 40 ≤ k → Brings k o → Sized n (exactly m n k o)
 exact-sized m n k o l b = go (eqb n k) refl
   where
-    go : (t : Bool) → eqb n k ≡ t → Sized n (cond t (heard.Said (record { number = fieldAt m (n - 32) 16; order = o })) heard.Malformed)
+    go : (t : Bool) → eqb n k ≡ t → Sized n (cond t (heard.said (record { number = fieldAt m (n - 32) 16; order = o })) (heard.refused 7))
     go true e = rw (eqb-true n k e) (l, b)
     go false e = tt
 
-pointed-sized : (m : List ℕ) (n i : ℕ) (f : ℕ → ℕ → Heard) → ((v e : ℕ) → e ≤ 3 → Sized n (f v e)) → Sized n (pointed (pointerAt m n i) f)
-pointed-sized m n i f h = go (pointerAt m n i) refl
+pointed-sized : (m : List ℕ) (n i : ℕ) (f : ℕ → ℕ → Message) → ((v e : ℕ) → e ≤ 3 → Sized n (f v e)) → Sized n (pointed (pointerAt m n i) f)
+pointed-sized m n i f h = go (pointerAt m n i) (fits m n i)
   where
-    go : (p : Pointer) → p ≡ pointerAt m n i → Sized n (pointed p f)
-    go pointer.Malformed e = tt
-    go (pointer.Whole v b) e = h v b (few m n i e refl)
+    go : (p : Read) → Fits 3 p → Sized n (pointed p f)
+    go (pointer.refused k) e = tt
+    go (pointer.whole v b) e = h v b e
 
-cond-sized : (n : ℕ) (t : Bool) (a b : Heard) → Sized n a → Sized n b → Sized n (cond t a b)
+cond-sized : (n : ℕ) (t : Bool) (a b : Message) → Sized n a → Sized n b → Sized n (cond t a b)
 cond-sized n true a b p q = p
 cond-sized n false a b p q = q
 
@@ -63,7 +62,7 @@ unfolding heardOf
 heard-sized m n =
     let code = fieldAt m 0 8 in
     cond-sized n (ltb (8 * length m) n || ltb n 8) _ _ tt
-    (cond-sized n (eqb code 0xC0) _ _ (cond-sized n (eqb n 8) heard.Nak heard.Malformed tt tt)
+    (cond-sized n (eqb code 0xC0) _ _ (cond-sized n (eqb n 8) heard.nak (heard.refused 7) tt tt)
     (cond-sized n (eqb code 0xC1) _ _ (exact-sized m n _ _ (omega arith) tt)
     (cond-sized n (eqb code 0xC2) _ _ (pointed-sized m n 10 _ (λ v e l. exact-sized m n _ _ (omega arith) tt))
     (cond-sized n (eqb code 0xC3) _ _ (pointed-sized m n 10 _ (λ v e l. exact-sized m n _ _ (omega arith) tt))
@@ -74,10 +73,10 @@ heard-sized m n =
     (cond-sized n (eqb code 0xC8) _ _ (pointed-sized m n 10 _ (λ v e l. exact-sized m n _ _ (omega arith) tt))
     (cond-sized n (eqb code 0xC9) _ _ (pointed-sized m n 19 _ (λ v e l. cond-sized n (eqb (fieldAt m 16 1) 0) _ _ (exact-sized m n _ _ (omega arith) tt) (exact-sized m n _ _ (omega arith) (omega arith, omega arith)))) tt))))))))))
 
-never : {c : Command} → heard.Malformed ≡ heard.Said c → ⊥
+never : {c : Command} → heard.refused 7 ≡ heard.said c → ⊥
 never e = let z : _≡_ {A = ℕ} 0 1 = cc in omega arith
 
-module _ (m : List ℕ) (n : ℕ) (c : Command) (said : heardOf m n ≡ heard.Said c) where
+module _ (m : List ℕ) (n : ℕ) (c : Command) (said : heardOf m n ≡ heard.said c) where
   held : n ≤ 8 * length m
   held = go (decLe n (8 * length m))
     where
@@ -85,7 +84,7 @@ module _ (m : List ℕ) (n : ℕ) (c : Command) (said : heardOf m n ≡ heard.Sa
       go (yes h) = h
       go (no h) = absurd (never (sym (beyond m n (omega arith)) ∙ said))
 
-  sized : Sized n (heard.Said c)
+  sized : Sized n (heard.said c)
   sized = rw said at (heard-sized m n)
 
   pub said-bounds : (40 ≤ n) × (n ≤ 8 * length m)

@@ -1,31 +1,34 @@
--- A pointer takes at most three bytes. Assumes nothing.
+-- A pointer takes at most three bytes, or is refused with 7. Assumes nothing.
 use Prim.Native.Nat.{ℕ, zero, suc, _+_, _-_, _*_, _≤_}
-use mathlib.Core.Path.{_≡_, sym, _∙_}
+use mathlib.Core.Path.{_≡_, refl, sym, ap, _∙_, subst}
 use mathlib.Core.Bool.{Bool, true, false, cond}
 use mathlib.Core.List.{List}
 use native.Mathlib.Omega.{arith}
 use lib.Dec.{ltb}
 use Rattle.bits.specs.Bits.{fieldAt}
 use Rattle.ebv.specs.declared.Pointer.{Pointer}
-use Rattle.ebv.specs.declared.Pointer.the-variants.{Whole, Malformed}
-use Rattle.ebv.specs.Ebv.{groups, pointerAt}
+use Rattle.ebv.specs.declared.Pointer.the-variants as pointer
+use Rattle.ebv.specs.Ebv.{Read, refused, whole, meaning, groups, pointerAt}
 
-never : {p e : ℕ} → Malformed ≡ Whole p e → ⊥
-never h = let z : _≡_ {A = ℕ} 0 1 = cc in omega arith
+abbrev pub Fits : ℕ → Read → Type 0
+Fits b (refused k) = k ≡ 7
+Fits b (whole v e) = e ≤ b
 
-few-groups : (m : List ℕ) (n i k acc more : ℕ) {p e : ℕ} → groups m n i k acc more ≡ Whole p e → e ≤ k + more
-few-groups m n i k acc zero h = absurd (never h)
-few-groups m n i k acc (suc more) {p} {e} h =
+groups-fit : (m : List ℕ) (n i k acc more : ℕ) → Fits (k + more) (groups m n i k acc more)
+groups-fit m n i k acc zero = refl
+groups-fit m n i k acc (suc more) =
     let g = fieldAt m (i + 8 * k) 8 in
     let v = acc * 128 + (g - 128) in
-    go (ltb n (i + 8 * k + 8)) (ltb g 128) (acc * 128 + g) (groups m n i (k + 1) v more) (few-groups m n i (k + 1) v more) h
+    go (ltb n (i + 8 * k + 8)) (ltb g 128) (acc * 128 + g) (groups m n i (k + 1) v more) (groups-fit m n i (k + 1) v more)
   where
-    go : (a b : Bool) (v : ℕ) (next : Pointer) → (next ≡ Whole p e → e ≤ k + 1 + more) → cond a Malformed (cond b (Whole v (k + 1)) next) ≡ Whole p e
-        → e ≤ k + suc more
-    go true b v next ih h = absurd (never h)
-    go false true v next ih h = let z : k + 1 ≡ e = cc in omega arith
-    go false false v next ih h = omega (arith, ih h)
+    go : (a b : Bool) (v : ℕ) (next : Read) → Fits (k + 1 + more) next → Fits (k + suc more) (cond a (refused 7) (cond b (whole v (k + 1)) next))
+    go true b v next h = refl
+    go false true v next h = omega arith
+    go false false v next h = let z : k + 1 + more ≡ k + suc more = omega arith in subst (λ (x : ℕ). Fits x next) z h
 
-pub few : (m : List ℕ) (n i : ℕ) {r : Pointer} {p e : ℕ} → r ≡ pointerAt m n i → r ≡ Whole p e → e ≤ 3
+pub fits : (m : List ℕ) (n i : ℕ) → Fits 3 (pointerAt m n i)
 unfolding pointerAt
-few m n i q h = few-groups m n i 0 0 3 (sym q ∙ h)
+fits m n i = groups-fit m n i 0 0 3
+
+pub few : (m : List ℕ) (n i : ℕ) {r : Pointer} {p e : ℕ} → meaning r ≡ pointerAt m n i → r ≡ pointer.Whole p e → e ≤ 3
+few m n i q h = subst (Fits 3) (sym q ∙ ap meaning h) (fits m n i)

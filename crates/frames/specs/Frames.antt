@@ -7,62 +7,61 @@ use lib.ListN.{length}
 use Rattle.bits.specs.Bits.{fieldAt, bitsFrom}
 use Rattle.bits.specs.First.{first}
 use Rattle.crc.specs.Crc.{crcOf}
-use Rattle.ebv.specs.declared.Pointer.{Pointer}
-use Rattle.ebv.specs.declared.Pointer.the-variants as pointer
-use Rattle.ebv.specs.Ebv.{pointerAt}
+use Rattle.ebv.specs.Ebv.{Read, pointerAt}
+use Rattle.ebv.specs.Ebv as pointer
 use Rattle.frames.specs.declared.Span.{Span}
 use Rattle.frames.specs.declared.Order.{Order}
 use Rattle.frames.specs.declared.Order.the-variants as order
-use Rattle.frames.specs.declared.Heard.{Heard}
-use Rattle.frames.specs.declared.Heard.the-variants as heard
+use Rattle.frames.specs.Message.{Message}
+use Rattle.frames.specs.Message as heard
 
 -- the order o, in a frame of exactly k bits; its number stands before the CRC-16
-abbrev pub exactly : List ℕ → ℕ → ℕ → Order → Heard
-exactly m n k o = cond (eqb n k) (heard.Said (record { number = fieldAt m (n - 32) 16; order = o })) heard.Malformed
+abbrev pub exactly : List ℕ → ℕ → ℕ → Order → Message
+exactly m n k o = cond (eqb n k) (heard.said (record { number = fieldAt m (n - 32) 16; order = o })) (heard.refused 7)
 
 -- what follows a pointer of the value p and e bytes
-abbrev pub pointed : Pointer → (ℕ → ℕ → Heard) → Heard
-pointed pointer.Malformed f = heard.Malformed
-pointed (pointer.Whole p e) f = f p e
+abbrev pub pointed : Read → (ℕ → ℕ → Message) → Message
+pointed (pointer.refused k) f = heard.refused k
+pointed (pointer.whole p e) f = f p e
 
 abbrev pub span : ℕ → ℕ → ℕ → Span
 span b p c = record { bank = b; pointer = p; count = c }
 
 -- 3.7: the layout and the length of each command
-abbrev pub nakOf : ℕ → Heard
-nakOf n = cond (eqb n 8) heard.Nak heard.Malformed
+abbrev pub nakOf : ℕ → Message
+nakOf n = cond (eqb n 8) heard.nak (heard.refused 7)
 
-abbrev pub reqRnOf : List ℕ → ℕ → Heard
+abbrev pub reqRnOf : List ℕ → ℕ → Message
 reqRnOf m n = exactly m n 40 order.ReqRn
 
-abbrev pub readOf : List ℕ → ℕ → Heard
+abbrev pub readOf : List ℕ → ℕ → Message
 readOf m n =
     pointed (pointerAt m n 10) (λ p e. exactly m n (50 + 8 * e) (order.Read (span (fieldAt m 8 2) p (fieldAt m (10 + 8 * e) 8))))
 
-abbrev pub writeOf : List ℕ → ℕ → Heard
+abbrev pub writeOf : List ℕ → ℕ → Message
 writeOf m n =
     pointed (pointerAt m n 10) (λ p e. exactly m n (58 + 8 * e) (order.Write (span (fieldAt m 8 2) p 1) (fieldAt m (10 + 8 * e) 16)))
 
-abbrev pub killOf : List ℕ → ℕ → Heard
+abbrev pub killOf : List ℕ → ℕ → Message
 killOf m n = exactly m n 59 (order.Kill (fieldAt m 8 16))
 
-abbrev pub lockOf : List ℕ → ℕ → Heard
+abbrev pub lockOf : List ℕ → ℕ → Message
 lockOf m n = exactly m n 60 (order.Lock (fieldAt m 8 10) (fieldAt m 18 10))
 
-abbrev pub accessOf : List ℕ → ℕ → Heard
+abbrev pub accessOf : List ℕ → ℕ → Message
 accessOf m n = exactly m n 56 (order.Access (fieldAt m 8 16))
 
-abbrev pub blockWriteOf : List ℕ → ℕ → Heard
+abbrev pub blockWriteOf : List ℕ → ℕ → Message
 blockWriteOf m n =
     pointed (pointerAt m n 10)
     (λ p e. let c = fieldAt m (10 + 8 * e) 8 in exactly m n (50 + 8 * e + 16 * c) (order.BlockWrite (span (fieldAt m 8 2) p c) (18 + 8 * e)))
 
-abbrev pub blockEraseOf : List ℕ → ℕ → Heard
+abbrev pub blockEraseOf : List ℕ → ℕ → Message
 blockEraseOf m n =
     pointed (pointerAt m n 10) (λ p e. exactly m n (50 + 8 * e) (order.BlockErase (span (fieldAt m 8 2) p (fieldAt m (10 + 8 * e) 8))))
 
 -- bit 16 says whether it reads or locks
-abbrev pub permalockOf : List ℕ → ℕ → Heard
+abbrev pub permalockOf : List ℕ → ℕ → Message
 permalockOf m n =
     pointed (pointerAt m n 19)
     (λ p e.
@@ -71,11 +70,11 @@ permalockOf m n =
     (exactly m n (59 + 8 * e + 16 * s .count) (order.Permalock (fieldAt m 8 8) s (27 + 8 * e))))
 
 -- 3.8: the codes
-unfoldable pub heardOf : List ℕ → ℕ → Heard
+unfoldable pub heardOf : List ℕ → ℕ → Message
 heardOf m n =
     let code = fieldAt m 0 8 in
     first
-    ((heard.Malformed, ltb (8 * length m) n || ltb n 8)
+    ((heard.refused 7, ltb (8 * length m) n || ltb n 8)
     ∷ (nakOf n, eqb code 0xC0)
     ∷ (reqRnOf m n, eqb code 0xC1)
     ∷ (readOf m n, eqb code 0xC2)
@@ -87,7 +86,7 @@ heardOf m n =
     ∷ (blockEraseOf m n, eqb code 0xC8)
     ∷ (permalockOf m n, eqb code 0xC9)
     ∷ [])
-    heard.Malformed
+    (heard.refused 7)
 
 -- the CRC-16 at a frame's end is that of all bits before it
 unfoldable pub checksumRight : List ℕ → ℕ → Bool

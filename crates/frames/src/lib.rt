@@ -3,6 +3,7 @@ ghost use mathlib.Core.Path.{_≡_};
 ghost use Prim.Native.Nat.{_+_, _*_, _≤_, _<_};
 ghost use lib.ListN.{length};
 ghost use Rattle.bits.specs.Bits.{fieldAt};
+ghost use Rattle.frames.specs.Message.{meaning};
 ghost use Rattle.frames.specs.Frames.{heardOf, checksumRight, exactly, span as spanOf, nakOf, reqRnOf, readOf, writeOf, killOf, lockOf, accessOf, blockWriteOf, blockEraseOf, permalockOf};
 use ebv::Pointer;
 
@@ -43,7 +44,7 @@ pub enum Heard {
 // The order in a frame of exactly k bits, with the number before the CRC-16.
 fn exact(frame: &[u8], n: usize, k: usize, order: Order) -> Heard
     requires { ⌜ (40 ≤ k) × (n ≤ 8 * length (now frame)) ⌝ }
-    ensures { λ r. ⌜ r ≡ exactly (now (frame .entry)) n k order ⌝ }
+    ensures { λ r. ⌜ meaning r ≡ exactly (now (frame .entry)) n k order ⌝ }
 {
     if n == k {
         let number = bits::last_word(frame, n - 16);
@@ -76,21 +77,21 @@ fn named(frame: &[u8], at: usize, pointer: u32, w: usize) -> Span
 }
 
 fn nak(n: usize) -> Heard
-    ensures { λ r. ⌜ r ≡ nakOf n ⌝ }
+    ensures { λ r. ⌜ meaning r ≡ nakOf n ⌝ }
 {
     if n == 8 { Heard::Nak } else { Heard::Malformed }
 }
 
 fn req_rn(frame: &[u8], n: usize) -> Heard
     requires { ⌜ n ≤ 8 * length (now frame) ⌝ }
-    ensures { λ r. ⌜ r ≡ reqRnOf (now (frame .entry)) n ⌝ }
+    ensures { λ r. ⌜ meaning r ≡ reqRnOf (now (frame .entry)) n ⌝ }
 {
     exact(frame, n, 40, Order::ReqRn)
 }
 
 fn read(frame: &[u8], n: usize) -> Heard
     requires { ⌜ n ≤ 8 * length (now frame) ⌝ }
-    ensures { λ r. ⌜ r ≡ readOf (now (frame .entry)) n ⌝ }
+    ensures { λ r. ⌜ meaning r ≡ readOf (now (frame .entry)) n ⌝ }
 {
     let Pointer::Whole { value, bytes } = ebv::read(frame, n, 10) else {
         return Heard::Malformed;
@@ -102,7 +103,7 @@ fn read(frame: &[u8], n: usize) -> Heard
 
 fn write(frame: &[u8], n: usize) -> Heard
     requires { ⌜ n ≤ 8 * length (now frame) ⌝ }
-    ensures { λ r. ⌜ r ≡ writeOf (now (frame .entry)) n ⌝ }
+    ensures { λ r. ⌜ meaning r ≡ writeOf (now (frame .entry)) n ⌝ }
 {
     let Pointer::Whole { value, bytes } = ebv::read(frame, n, 10) else {
         return Heard::Malformed;
@@ -120,14 +121,14 @@ fn write(frame: &[u8], n: usize) -> Heard
 
 fn kill(frame: &[u8], n: usize) -> Heard
     requires { ⌜ n ≤ 8 * length (now frame) ⌝ }
-    ensures { λ r. ⌜ r ≡ killOf (now (frame .entry)) n ⌝ }
+    ensures { λ r. ⌜ meaning r ≡ killOf (now (frame .entry)) n ⌝ }
 {
     exact(frame, n, 59, Order::Kill(bits::field(frame, 8, 16)))
 }
 
 fn lock(frame: &[u8], n: usize) -> Heard
     requires { ⌜ n ≤ 8 * length (now frame) ⌝ }
-    ensures { λ r. ⌜ r ≡ lockOf (now (frame .entry)) n ⌝ }
+    ensures { λ r. ⌜ meaning r ≡ lockOf (now (frame .entry)) n ⌝ }
 {
     let mask = bits::field(frame, 8, 10);
     let action = bits::field(frame, 18, 10);
@@ -136,14 +137,14 @@ fn lock(frame: &[u8], n: usize) -> Heard
 
 fn access(frame: &[u8], n: usize) -> Heard
     requires { ⌜ n ≤ 8 * length (now frame) ⌝ }
-    ensures { λ r. ⌜ r ≡ accessOf (now (frame .entry)) n ⌝ }
+    ensures { λ r. ⌜ meaning r ≡ accessOf (now (frame .entry)) n ⌝ }
 {
     exact(frame, n, 56, Order::Access(bits::field(frame, 8, 16)))
 }
 
 fn block_write(frame: &[u8], n: usize) -> Heard
     requires { ⌜ n ≤ 8 * length (now frame) ⌝ }
-    ensures { λ r. ⌜ r ≡ blockWriteOf (now (frame .entry)) n ⌝ }
+    ensures { λ r. ⌜ meaning r ≡ blockWriteOf (now (frame .entry)) n ⌝ }
 {
     let Pointer::Whole { value, bytes } = ebv::read(frame, n, 10) else {
         return Heard::Malformed;
@@ -160,7 +161,7 @@ fn block_write(frame: &[u8], n: usize) -> Heard
 
 fn block_erase(frame: &[u8], n: usize) -> Heard
     requires { ⌜ n ≤ 8 * length (now frame) ⌝ }
-    ensures { λ r. ⌜ r ≡ blockEraseOf (now (frame .entry)) n ⌝ }
+    ensures { λ r. ⌜ meaning r ≡ blockEraseOf (now (frame .entry)) n ⌝ }
 {
     let Pointer::Whole { value, bytes } = ebv::read(frame, n, 10) else {
         return Heard::Malformed;
@@ -172,7 +173,7 @@ fn block_erase(frame: &[u8], n: usize) -> Heard
 
 fn permalock(frame: &[u8], n: usize) -> Heard
     requires { ⌜ n ≤ 8 * length (now frame) ⌝ }
-    ensures { λ r. ⌜ r ≡ permalockOf (now (frame .entry)) n ⌝ }
+    ensures { λ r. ⌜ meaning r ≡ permalockOf (now (frame .entry)) n ⌝ }
 {
     let Pointer::Whole { value, bytes } = ebv::read(frame, n, 19) else {
         return Heard::Malformed;
@@ -191,10 +192,10 @@ fn permalock(frame: &[u8], n: usize) -> Heard
     )
 }
 
-// What a frame of this code says.
+// What a frame of this code says: the code chooses the layout and the length.
 fn by_code(frame: &[u8], n: usize, code: u8) -> Heard
     requires { ⌜ (8 ≤ n) × (n ≤ 8 * length (now frame)) × (code ≡ fieldAt (now frame) 0 8) ⌝ }
-    ensures { λ r. ⌜ r ≡ heardOf (now (frame .entry)) n ⌝ }
+    ensures { λ r. ⌜ meaning r ≡ heardOf (now (frame .entry)) n ⌝ }
 {
     match code {
         0xC0 => nak(n),
@@ -207,13 +208,13 @@ fn by_code(frame: &[u8], n: usize, code: u8) -> Heard
         0xC7 => block_write(frame, n),
         0xC8 => block_erase(frame, n),
         0xC9 => permalock(frame, n),
-        _ => Heard::Malformed,
+        0x00..=0xBF | 0xCA..=0xFF => Heard::Malformed,
     }
 }
 
 // What a frame of n bits says, for any bytes and any n.
 pub fn hear(frame: &[u8], n: usize) -> Heard
-    ensures { λ r. ⌜ r ≡ heardOf (now (frame .entry)) n ⌝ }
+    ensures { λ r. ⌜ meaning r ≡ heardOf (now (frame .entry)) n ⌝ }
 {
     if n < 8 {
         return Heard::Malformed;
@@ -221,11 +222,7 @@ pub fn hear(frame: &[u8], n: usize) -> Heard
     if frame.len() <= (n - 1) / 8 {
         return Heard::Malformed;
     }
-    let code = frame[0];
-    match code {
-        0xC0..=0xC9 => by_code(frame, n, code),
-        _ => Heard::Malformed,
-    }
+    by_code(frame, n, frame[0])
 }
 
 // Whether the CRC-16 at a frame's end is that of the bits before it.

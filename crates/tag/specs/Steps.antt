@@ -10,8 +10,8 @@ use Rattle.image.specs.declared.Layout.{Layout}
 use Rattle.image.specs.Content.{countIn}
 use Rattle.frames.specs.declared.Order.{Order}
 use Rattle.frames.specs.declared.Command.{Command}
-use Rattle.frames.specs.declared.Heard.{Heard}
-use Rattle.frames.specs.declared.Heard.the-variants as heard
+use Rattle.frames.specs.Message.{Message}
+use Rattle.frames.specs.Message as heard
 use Rattle.frames.specs.Frames.{heardOf, checksumRight}
 use Rattle.replies.specs.declared.Reply.{Reply}
 use Rattle.replies.specs.declared.Reply.the-variants as reply
@@ -149,10 +149,10 @@ abbrev pub movedWith : Live → State → Outcome
 movedWith l st = record { answer = answer.Done; session = movedTo l st; reply = 0; stores = 0; value = 0 }
 
 -- what was heard, of a session under power on an image with nothing pending
-abbrev pub heardBy : Live → Layout → List ℕ → List ℕ → ℕ → ℕ → List ℕ → ℕ → Heard → Result
-heardBy l y m f n fresh room s heard.Malformed = kept 7 l m room
-heardBy l y m f n fresh room s heard.Nak = cond (isKilled (l .state)) (kept 9 l m room) (result (movedWith l state.Arbitrate) m room)
-heardBy l y m f n fresh room s (heard.Said c) = cond (not (checksumRight f n)) (kept 8 l m room) (commandOf l y m f fresh room s c)
+abbrev pub heardBy : Live → Layout → List ℕ → List ℕ → ℕ → ℕ → List ℕ → ℕ → Message → Result
+heardBy l y m f n fresh room s (heard.refused k) = kept 7 l m room
+heardBy l y m f n fresh room s heard.nak = cond (isKilled (l .state)) (kept 9 l m room) (result (movedWith l state.Arbitrate) m room)
+heardBy l y m f n fresh room s (heard.said c) = cond (not (checksumRight f n)) (kept 8 l m room) (commandOf l y m f fresh room s c)
 
 unfoldable pub liveBy : Live → Layout → List ℕ → List ℕ → ℕ → ℕ → List ℕ → ℕ → Result
 liveBy l y m f n fresh room s =

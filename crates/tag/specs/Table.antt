@@ -10,8 +10,8 @@ use Rattle.image.specs.declared.Layout.{Layout}
 use Rattle.image.specs.Layout.{layoutOf}
 use Rattle.image.specs.Content.{countIn}
 use Rattle.image.specs.Check.{imageRows}
-use Rattle.frames.specs.declared.Heard.{Heard}
-use Rattle.frames.specs.declared.Heard.the-variants as heard
+use Rattle.frames.specs.Message.{Message}
+use Rattle.frames.specs.Message as heard
 use Rattle.frames.specs.Frames.{heardOf, checksumRight}
 use Rattle.replies.specs.declared.Reply.{Reply}
 use Rattle.replies.specs.declared.Reply.the-variants as reply
@@ -44,7 +44,7 @@ pub record Input : Type 0 where
 abbrev pub layout : Input → Layout
 layout i = layoutOf (i .image)
 
-abbrev pub said : Input → Heard
+abbrev pub said : Input → Message
 said i = heardOf (i .frame) (i .bits)
 
 abbrev pub isOff : Power → Bool
@@ -62,30 +62,30 @@ live i = liveOf (i .session .power)
 abbrev pub stateOf : Input → State
 stateOf i = live i .state
 
-abbrev pub malformed : Heard → Bool
-malformed heard.Malformed = true
-malformed heard.Nak = false
-malformed (heard.Said c) = false
+abbrev pub malformed : Message → Bool
+malformed (heard.refused k) = true
+malformed heard.nak = false
+malformed (heard.said c) = false
 
 -- NAK has no CRC
-abbrev pub checksumWrong : List ℕ → ℕ → Heard → Bool
-checksumWrong f n heard.Malformed = false
-checksumWrong f n heard.Nak = false
-checksumWrong f n (heard.Said c) = not (checksumRight f n)
+abbrev pub checksumWrong : List ℕ → ℕ → Message → Bool
+checksumWrong f n (heard.refused k) = false
+checksumWrong f n heard.nak = false
+checksumWrong f n (heard.said c) = not (checksumRight f n)
 
-abbrev pub broken : Input → Heard → Bool
-broken i heard.Malformed = false
-broken i heard.Nak = false
-broken i (heard.Said c) = let k = linkOf (stateOf i) in breaks (layout i) (i .image) k (k .half) (asksOf (c .order) .part)
+abbrev pub broken : Input → Message → Bool
+broken i (heard.refused k) = false
+broken i heard.nak = false
+broken i (heard.said c) = let k = linkOf (stateOf i) in breaks (layout i) (i .image) k (k .half) (asksOf (c .order) .part)
 
 -- what was heard comes to; NAK: Arbitrate, and no reply
 abbrev pub scene : Input → Scene
 scene i = record { layout = layout i; image = i .image; state = stateOf i; frame = i .frame; fresh = i .fresh }
 
-abbrev pub comes : Input → Heard → Effect
-comes i heard.Malformed = does (stateOf i) reply.Silence []
-comes i heard.Nak = does state.Arbitrate reply.Silence []
-comes i (heard.Said c) = effectOf (scene i) (c .order)
+abbrev pub comes : Input → Message → Effect
+comes i (heard.refused k) = does (stateOf i) reply.Silence []
+comes i heard.nak = does state.Arbitrate reply.Silence []
+comes i (heard.said c) = effectOf (scene i) (c .order)
 
 abbrev pub effect : Input → Effect
 effect i = comes i (said i)

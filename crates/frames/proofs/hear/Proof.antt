@@ -3,7 +3,7 @@ use mathlib.Core.Path.{sym}
 use native.Mathlib.Omega.{arith}
 use denote.Ref.{now}
 use Rattle.bits.proofs.Fields.{field-byte}
-use Rattle.frames.proofs.Codes.{beyond, no-code, unknown}
+use Rattle.frames.proofs.Codes.{beyond, no-code}
 use borrow.Author.Needs.{needs}
 use Rattle.frames.proofs.hear.Statement.{statement}
 use Rattle.frames.proofs.hear.Tie as tie
@@ -16,20 +16,10 @@ returns-2 c = sym (beyond _ _ (omega arith))
 
 by-code-requires : tie.Need-by-code-requires
 by-code-requires c κs =
-    let m = now (c .before .before .before .before .before .before .args .frame) in
-    (omega arith, omega arith, sym (field-byte m (λ i. omega (arith, c .before .before .shared-slice-known2 .given i)) 0))
-
-returns-4 : tie.Need-returns-4
-returns-4 c =
-    let m = now (c .before .before .before .before .before .args .frame) in
-    sym (unknown m _ (omega arith) (omega arith) (rw (field-byte m (λ i. omega (arith, c .before .shared-slice-known2 .given i)) 0) (λ l g. omega arith)))
-
-returns-5 : tie.Need-returns-5
-returns-5 c =
-    let m = now (c .before .before .before .before .before .before .args .frame) in
-    sym (unknown m _ (omega arith) (omega arith) (rw (field-byte m (λ i. omega (arith, c .before .before .shared-slice-known2 .given i)) 0) (λ l g. omega arith)))
+    let m = now (c .before .before .before .before .args .frame) in
+    (omega arith, omega arith, sym (field-byte m (λ i. omega (arith, c .shared-slice-known2 .given i)) 0))
 
 pub hear-spec : {M : Type 1} → statement M
 hear-spec =
     tie.close
-    (tie.spec returns (search needs) returns-2 (search needs) by-code-requires (λ c. search needs) returns-4 returns-5)
+    (tie.spec returns (search needs) returns-2 (search needs) by-code-requires (λ c. search needs))

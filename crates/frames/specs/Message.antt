@@ -1,0 +1,23 @@
+-- What a frame can say (RULES 3.5 to 3.8). Assumes nothing.
+use Prim.Native.Nat.{ℕ}
+use Rattle.frames.specs.declared.Command.{Command}
+use Rattle.frames.specs.declared.Heard.{Heard}
+use Rattle.frames.specs.declared.Heard.the-variants as answer
+
+-- a number of the answer table, NAK, or a command
+pub data Message : Type 0 where
+  refused : ℕ → Message
+  nak : Message
+  said : Command → Message
+
+-- the number and values of each answer in the code
+abbrev pub meaning : Heard → Message
+meaning answer.Malformed = refused 7
+meaning answer.Nak = nak
+meaning (answer.Said c) = said c
+
+-- the number in the answer table, of a frame that has one by itself
+abbrev pub rowOf : Message → ℕ
+rowOf (refused n) = n
+rowOf nak = 0
+rowOf (said c) = 0
