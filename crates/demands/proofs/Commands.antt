@@ -9,7 +9,7 @@ use lib.Bits.{bitXor}
 use lib.Dec.{eqb, ltb}
 use lib.ListN.{length, take}
 use borrow.Author.Tests.{eq-eqb, ne-eqb, le-ltb}
-use Rattle.bits.specs.Words.{Store, after}
+use Rattle.bits.specs.Words.{wordAt, Store, store, after}
 use Rattle.image.specs.declared.Layout.{Layout}
 use Rattle.image.specs.Layout.{layoutOf, pairsIn}
 use Rattle.image.proofs.Answers.{check-good, check-0}
@@ -41,6 +41,8 @@ use Rattle.tag.specs.Result.{Result, leaves, gives}
 use Rattle.states.specs.Commands.{asksOf, linkOf, isCovered, isKilled, wrong, wrongCommand, breaks, accessWord, isLinked}
 use Rattle.plans.specs.Effects.{Effect, effectOf}
 use Rattle.tag.specs.Table.{Input, input, malformed, checksumWrong, broken, comes, effect, isError, replyOr, replyOf, storesOf, fits, replied, rows, frameOf, admitOf}
+use Rattle.demands.specs.Facts.{marked}
+use Rattle.demands.proofs.Rights.{marked-words, marked-every}
 use Rattle.tag.specs.Port.{badCount, badData, refusals, withKilled, withUnwritten, someUnwritten, writtenWords, readBits, portWords, askOf, releaseOf, registerOf, readOf, writeOf}
 use Rattle.demands.specs.Calls.{answerOf, Idle}
 use Rattle.demands.specs.Commands.{Air, hears, linked, link, done, Does, Radio, Calls, Engine, Demand2}
@@ -325,9 +327,13 @@ module _ (m : List ℕ) (st : State) (r : Register) (idle : Idle (layoutOf m) m)
   engine =
       record {
         read = λ at n room k. engine-read false at n room (not-killed st k);
-        write = λ at d n s k size a b c few l.
-            engine-write at d n s size a b c few false (writtenWords (layoutOf m) m at d n) (not-killed st k)
-            (let half : length d / 2 ≡ n = omega (arith, size) in ap (writtenWords (layoutOf m) m at d) half) l;
+        write = λ at d n s k size a b c few marks h l.
+            let y = layoutOf m in
+            let words = marked marks (λ j. store (y .user .at + at + j) (wordAt d j)) n in
+            let ss = changeStores (y .work .at) words in
+            engine-write at d n s size a b c few false words (not-killed st k)
+            (let half : length d / 2 ≡ n = omega (arith, size) in ap (writtenWords y m at d) half ∙ sym (marked-words y m marks at d n h)) l
+            ∙ ap (λ (t : Bool). gives 0 (on st true (withUnwritten (not t) r)) 0 (length ss) (after m ss) []) (sym (marked-every y m marks at n h));
         read-killed = λ at n room k. engine-read true at n room (ap isKilled k);
         write-killed = λ at d n s k size a b c few. engine-write at d n s size a b c few true [] (ap isKilled k) refl (omega arith);
       }

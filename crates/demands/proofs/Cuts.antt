@@ -27,9 +27,9 @@ use Rattle.tag.specs.Result.{Result}
 use Rattle.tag.specs.Power.{poweredTo, firstIn, powerUpOf}
 use Rattle.demands.specs.Calls.{Tag, answerOf, wordsIn, torn}
 use Rattle.demands.specs.Commands.{Start}
-use Rattle.demands.specs.Demands.{Storing, byRadio, byPort, told, Stores, powerUps, Unbroken, Cuts, Demand3}
+use Rattle.demands.specs.Demands.{Storing, byRadio, byPort, lasting, Stores, powerUps, Unbroken, Cuts, Demand3}
 use Rattle.demands.proofs.Plans.{plan-change}
-use Rattle.demands.proofs.Rows.{Refused, Acting, wordsOf, acts, words-told}
+use Rattle.demands.proofs.Rows.{Refused, Acting, wordsOf, acts, words-lasting}
 use Rattle.demands.proofs.Rising.{rising}
 
 -- a power-up of a good image
@@ -102,11 +102,11 @@ powers-cut y [] m g = refl
 powers-cut y (f ∷ fs) m g = ap (powerUps answerOf fs) (power-torn y m (g []) f) ∙ powers-cut y fs (cutPowerUp f m) (λ ds. g (f ∷ ds))
 
 -- a command's two images
-pub torn-told : (t : Tag) (c : Storing) (k j : ℕ) → torn answerOf t (told c k) j ≡ withByte j (answerOf t (told c (suc k)) .image) (answerOf t (told c k) .image)
-torn-told t (byRadio f bits fresh room) k j = refl
-torn-told t (byPort at d) k j = refl
+pub torn-lasting : (t : Tag) (c : Storing) (k j : ℕ) → torn answerOf t (lasting c k) j ≡ withByte j (answerOf t (lasting c (suc k)) .image) (answerOf t (lasting c k) .image)
+torn-lasting t (byRadio f bits fresh room) k j = refl
+torn-lasting t (byPort at d) k j = refl
 
-module _ (y : Layout) (t : Tag) (c : Storing) (n enough : ℕ) (h : Stores answerOf y t c n enough) (ws : List Store) (own : wordsIn t (told c enough) ≡ ws) (a : Acting y t c ws) where
+module _ (y : Layout) (t : Tag) (c : Storing) (n enough : ℕ) (h : Stores answerOf y t c n enough) (ws : List Store) (own : wordsIn t (lasting c enough) ≡ ws) (a : Acting y t c ws) where
   g : Good y (t .image)
   g = check-good (t .image) y (h .idle .sound)
 
@@ -126,12 +126,12 @@ module _ (y : Layout) (t : Tag) (c : Storing) (n enough : ℕ) (h : Stores answe
 
   module _ (f : Cut) (fs : List Cut) where
     left : List ℕ
-    left = powerUps answerOf fs (torn answerOf t (told c (f .whole)) (f .byte))
+    left = powerUps answerOf fs (torn answerOf t (lasting c (f .whole)) (f .byte))
 
     left-image : left ≡ cutImage y (t .image) ws f fs
     unfolding left
     left-image =
-        ap (powerUps answerOf fs) (torn-told t c (f .whole) (f .byte) ∙ ap₂ (withByte (f .byte)) (a .image (suc (f .whole))) (a .image (f .whole)))
+        ap (powerUps answerOf fs) (torn-lasting t c (f .whole) (f .byte) ∙ ap₂ (withByte (f .byte)) (a .image (suc (f .whole))) (a .image (f .whole)))
         ∙ powers-cut y fs (cutAfter f (t .image) (changeStores (y .work .at) ws)) (laws .good f)
 
     left-good : Good y left
@@ -141,7 +141,7 @@ module _ (y : Layout) (t : Tag) (c : Storing) (n enough : ℕ) (h : Stores answe
     left-word j i z = ap (λ (x : List ℕ). wordAt x i) (power-whole y left left-good j z ∙ ap powerUp left-image)
 
   -- the command done, as a cut behind its last store
-  done : answerOf t (told c enough) .image ≡ cutImage y (t .image) ws (record { whole = enough; byte = 0 }) []
+  done : answerOf t (lasting c enough) .image ≡ cutImage y (t .image) ws (record { whole = enough; byte = 0 }) []
   done =
       let all = changeStores (y .work .at) ws in
       a .image enough
@@ -150,8 +150,8 @@ module _ (y : Layout) (t : Tag) (c : Storing) (n enough : ℕ) (h : Stores answe
       ∙ ap (withByte 0 (after (t .image) (take (suc enough) all)))
       (ap (after (t .image)) (take-all (suc enough) all (omega (arith, whole)) ∙ sym (take-all enough all whole)))
 
-  done-word : (k i : ℕ) → i < y .work .at → powerUpOf (answerOf t (told c enough) .image) k .number ≡ 0
-      → wordAt (powerUpOf (answerOf t (told c enough) .image) k .image) i ≡ wordAt (powerUp (after (t .image) ws)) i
+  done-word : (k i : ℕ) → i < y .work .at → powerUpOf (answerOf t (lasting c enough) .image) k .number ≡ 0
+      → wordAt (powerUpOf (answerOf t (lasting c enough) .image) k .image) i ≡ wordAt (powerUp (after (t .image) ws)) i
   done-word k i l z =
       let d : Cut = record { whole = enough; byte = 0 } in
       ap (λ (x : List ℕ). wordAt x i) (power-whole y _ (subst (Good y) (sym done) (laws .good d [])) k z ∙ ap powerUp done)
@@ -163,7 +163,7 @@ module _ (y : Layout) (t : Tag) (c : Storing) (n enough : ℕ) (h : Stores answe
       let few : length (powerStores (layoutOf m) m) ≤ u = subst (λ (z : Layout). length (powerStores z m) ≤ u) (k .layout) (omega (arith, l, power-needs y m k)) in
       ap (λ (r : Result). r .number) (power-done y m k u few)
 
-  unbroken : (f : Cut) (fs : List Cut) → Unbroken answerOf y t c n enough (reaches y f) (powerUps answerOf fs (torn answerOf t (told c (f .whole)) (f .byte)))
+  unbroken : (f : Cut) (fs : List Cut) → Unbroken answerOf y t c n enough (reaches y f) (powerUps answerOf fs (torn answerOf t (lasting c (f .whole)) (f .byte)))
   unfolding left
   unbroken f fs =
       record {
@@ -177,18 +177,18 @@ module _ (y : Layout) (t : Tag) (c : Storing) (n enough : ℕ) (h : Stores answe
   all-cuts =
       record {
         stores = a .stores enough ∙ (let z = needs in omega (arith, whole, z));
-        rising = rising t (told c enough);
+        rising = rising t (lasting c enough);
         never = begins (t .image) g;
-        finished = begins (answerOf t (told c enough) .image) (subst (Good y) (sym done) (laws .good (record { whole = enough; byte = 0 }) []));
+        finished = begins (answerOf t (lasting c enough) .image) (subst (Good y) (sym done) (laws .good (record { whole = enough; byte = 0 }) []));
         cut = unbroken;
       }
 
 pub demand-3 : Demand3 answerOf
 demand-3 y t c n enough h = go (acts y t c enough (check-good (t .image) y (h .idle .sound)))
   where
-    go : Refused (t .image) (answerOf t (told c enough)) ⊎ Acting y t c (wordsOf t c) → Cuts answerOf y t c n enough
+    go : Refused (t .image) (answerOf t (lasting c enough)) ⊎ Acting y t c (wordsOf t c) → Cuts answerOf y t c n enough
     go (inl r) = absurd (omega (arith, h .done, r .1))
-    go (inr a) = all-cuts y t c n enough h (wordsOf t c) (words-told t c enough) a
+    go (inr a) = all-cuts y t c n enough h (wordsOf t c) (words-lasting t c enough) a
 
 -- a whole power-up, for any good image
 pub started-so : (y : Layout) (m : List ℕ) → checkOf m ≡ good y → Start answerOf y m (after m (powerStores y m))

@@ -3,15 +3,19 @@ use Prim.Native.Nat.{ℕ, zero, suc, _+_, _/_, _≤_, _<_}
 use mathlib.Core.Path.{_≡_, refl, sym, ap, ap₂, _∙_}
 use mathlib.Core.Logic.{_≢_, _⊎_, inl, inr, ⊎-elim}
 use mathlib.Core.Bool.{true≢false, false≢true, Bool, true, false, cond, not, _&&_, _||_}
-use mathlib.Core.List.{List}
+use mathlib.Core.List.{List, [], _∷_, _++_}
 use native.Mathlib.Omega.{arith}
 use lib.Dec.{eqb, ltb}
 use borrow.Author.Tests.{eqb-true, eqb-false, ltb-true, ltb-false, eq-eqb, ne-eqb, lt-ltb, le-ltb, not-true}
+use Rattle.bits.specs.Words.{wordAt, Store, store}
+use Rattle.bits.specs.Below.{every}
 use Rattle.bits.proofs.Below.{and-left, and-right, and-both, or-cases}
 use Rattle.image.specs.declared.Layout.{Layout}
 use Rattle.image.specs.Content.{lockWord, permalock}
 use Rattle.rights.specs.Rights.{pwdBit, permaBit, opens, pairOf, mayRead, blockOpen, mayWrite}
-use Rattle.demands.specs.Facts.{Opens, MayRead, MayWrite}
+use Rattle.states.specs.Commands.{accessWord, zeroAccess}
+use Rattle.tag.specs.Port.{portOpen, portWrites, writtenWords, someUnwritten}
+use Rattle.demands.specs.Facts.{Opens, MayRead, MayWrite, PortWrites, Tells, marked}
 
 opens-if : (q : Bool) (lock k : ℕ) → Opens q lock k → opens q lock k ≡ true
 opens-if q lock k (inl e) = ap (λ (t : Bool). t || (q && eqb (permaBit lock k) 0)) (eq-eqb (pwdBit lock k) 0 e)
@@ -79,3 +83,45 @@ module _ (y : Layout) (m : List ℕ) (q : Bool) where
       go : (t : Bool) → mayWrite y m q b i ≡ t → t ≡ false
       go true e = absurd (f (own b s e))
       go false e = refl
+
+-- the port's words
+module _ (y : Layout) (m : List ℕ) where
+  port-if : (i : ℕ) → PortWrites y m i → portWrites y m i ≡ true
+  port-if i p =
+      and-both (portOpen y m) (blockOpen y m i)
+      (and-both (zeroAccess y m) (eqb (pwdBit (lockWord y m) 4) 0)
+      (and-both (eqb (accessWord y m 0) 0) (eqb (accessWord y m 1) 0) (eq-eqb _ _ (p .0)) (eq-eqb _ _ (p .1))) (eq-eqb _ _ (p .2)))
+      (eq-eqb _ _ (p .3))
+
+  if-port : (i : ℕ) → portWrites y m i ≡ true → PortWrites y m i
+  if-port i e =
+      let a = and-left (portOpen y m) (blockOpen y m i) e in
+      let z = and-left (zeroAccess y m) (eqb (pwdBit (lockWord y m) 4) 0) a in (
+        eqb-true _ _ (and-left (eqb (accessWord y m 0) 0) (eqb (accessWord y m 1) 0) z),
+        eqb-true _ _ (and-right (eqb (accessWord y m 0) 0) (eqb (accessWord y m 1) 0) z),
+        eqb-true _ _ (and-right (zeroAccess y m) (eqb (pwdBit (lockWord y m) 4) 0) a),
+        eqb-true _ _ (and-right (portOpen y m) (blockOpen y m i) e),
+      )
+
+  module _ (marks : ℕ → Bool) (at : ℕ) where
+    mark-is : (j : ℕ) → Tells (marks j) (PortWrites y m (at + j)) → marks j ≡ portWrites y m (at + j)
+    mark-is j = go (marks j)
+      where
+        go : (b : Bool) → Tells b (PortWrites y m (at + j)) → b ≡ portWrites y m (at + j)
+        go true p = sym (port-if (at + j) p)
+        go false f = or-not (portWrites y m (at + j)) refl
+          where
+            or-not : (b : Bool) → portWrites y m (at + j) ≡ b → false ≡ b
+            or-not true e = absurd (f (if-port (at + j) e))
+            or-not false e = refl
+
+    pub marked-words : (d : List ℕ) (n : ℕ) → ((j : ℕ) → j < n → Tells (marks j) (PortWrites y m (at + j)))
+        → marked marks (λ j. store (y .user .at + at + j) (wordAt d j)) n ≡ writtenWords y m at d n
+    marked-words d zero h = refl
+    marked-words d (suc n) h =
+        ap₂ (λ (ws : List Store) (b : Bool). ws ++ cond b (store (y .user .at + at + n) (wordAt d n) ∷ []) []) (marked-words d n (λ j l. h j (omega arith)))
+        (mark-is n (h n (omega arith)))
+
+    pub marked-every : (n : ℕ) → ((j : ℕ) → j < n → Tells (marks j) (PortWrites y m (at + j))) → every marks n ≡ every (λ j. portWrites y m (at + j)) n
+    marked-every zero h = refl
+    marked-every (suc n) h = ap₂ _&&_ (marked-every n (λ j l. h j (omega arith))) (mark-is n (h n (omega arith)))

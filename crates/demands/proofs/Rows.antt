@@ -34,7 +34,7 @@ use Rattle.tag.specs.Table.{Input, input, isOff, liveOf, malformed, broken, com
 use Rattle.tag.specs.Port.{badCount, badData, portWords, refusals, registerTo, withKilled, withUnwritten, someUnwritten, writeOf}
 use Rattle.tag.proofs.Plans.{none-or}
 use Rattle.demands.specs.Calls.{Tag, answerOf, wordsIn}
-use Rattle.demands.specs.Demands.{Storing, byRadio, byPort, told}
+use Rattle.demands.specs.Demands.{Storing, byRadio, byPort, lasting}
 use Rattle.demands.proofs.Plans.{Plan, no-plan, order-plan, port-plan}
 
 abbrev pub Rows : Type 0
@@ -95,10 +95,10 @@ Refused m r = (r .image ≡ m) × (0 < r .number)
 pub record Acting (y : Layout) (t : Tag) (c : Storing) (ws : List Store) : Type 0 where
   pub idle : countIn y (t .image) ≡ 0
   pub plan : Plan y (t .image) ws
-  pub image : (s : ℕ) → answerOf t (told c s) .image ≡ after (t .image) (take s (changeStores (y .work .at) ws))
-  pub stores : (s : ℕ) → answerOf t (told c s) .stores ≡ min s (length (changeStores (y .work .at) ws))
-  pub whole : (s : ℕ) → answerOf t (told c s) .number ≡ 0 → length (changeStores (y .work .at) ws) ≤ s
-  pub fails : (s : ℕ) → s < length (changeStores (y .work .at) ws) → answerOf t (told c s) .number ≡ 11
+  pub image : (s : ℕ) → answerOf t (lasting c s) .image ≡ after (t .image) (take s (changeStores (y .work .at) ws))
+  pub stores : (s : ℕ) → answerOf t (lasting c s) .stores ≡ min s (length (changeStores (y .work .at) ws))
+  pub whole : (s : ℕ) → answerOf t (lasting c s) .number ≡ 0 → length (changeStores (y .work .at) ws) ≤ s
+  pub fails : (s : ℕ) → s < length (changeStores (y .work .at) ws) → answerOf t (lasting c s) .number ≡ 11
 
 -- a cut or a whole call leaves the first s stores
 ends-image : (s : ℕ) (m : List ℕ) (xs : List Store) (a b : Result) → a .image ≡ after m (take s xs) → b .image ≡ after m xs
@@ -342,24 +342,24 @@ wordsOf t (byRadio f bits fresh room) = effect (input (t .session) (t .image) f 
 wordsOf t (byPort at d) = portWords (layoutOf (t .image)) (t .image) (isKilled (liveOf (t .session .power) .state)) at d
 
 -- with any power a command is refused, or it acts
-pub acts : (y : Layout) (t : Tag) (c : Storing) (s : ℕ) → Good y (t .image) → Refused (t .image) (answerOf t (told c s)) ⊎ Acting y t c (wordsOf t c)
+pub acts : (y : Layout) (t : Tag) (c : Storing) (s : ℕ) → Good y (t .image) → Refused (t .image) (answerOf t (lasting c s)) ⊎ Acting y t c (wordsOf t c)
 unfolding wordsOf words port-words with-power radio y killed
-acts y t c s g = subst (λ (z : Layout). Refused (t .image) (answerOf t (told c s)) ⊎ Acting z t c (wordsOf t c)) (sym (g .layout)) (go c)
+acts y t c s g = subst (λ (z : Layout). Refused (t .image) (answerOf t (lasting c s)) ⊎ Acting z t c (wordsOf t c)) (sym (g .layout)) (go c)
   where
     h : Good (layoutOf (t .image)) (t .image)
     h = subst (λ (z : Layout). Good z (t .image)) (g .layout) g
 
-    go : (c : Storing) → Refused (t .image) (answerOf t (told c s)) ⊎ Acting (layoutOf (t .image)) t c (wordsOf t c)
+    go : (c : Storing) → Refused (t .image) (answerOf t (lasting c s)) ⊎ Acting (layoutOf (t .image)) t c (wordsOf t c)
     go (byRadio f bits fresh room) = frame-acts (t .session) (t .image) f bits fresh room h s
     go (byPort at d) = write-acts (t .session) (t .image) at d h s
 
 -- the words do not hang on the power
-pub words-told : (t : Tag) (c : Storing) (s : ℕ) → wordsIn t (told c s) ≡ wordsOf t c
+pub words-lasting : (t : Tag) (c : Storing) (s : ℕ) → wordsIn t (lasting c s) ≡ wordsOf t c
 unfolding wordsOf
-words-told t (byRadio f bits fresh room) s = go (heardOf f bits)
+words-lasting t (byRadio f bits fresh room) s = go (heardOf f bits)
   where
     go : (x : Message) → comes (input (t .session) (t .image) f bits fresh room s) x .words ≡ comes (input (t .session) (t .image) f bits fresh room 0) x .words
     go (heard.refused k) = refl
     go heard.nak = refl
     go (heard.said c) = refl
-words-told t (byPort at d) s = refl
+words-lasting t (byPort at d) s = refl

@@ -29,11 +29,11 @@ use Rattle.tag.specs.declared.Session.{Session}
 use Rattle.tag.specs.Result.{Result, leaves}
 use Rattle.tag.specs.Port.{badCount, refusals, readOf}
 use Rattle.demands.specs.Calls.{Call, powerUp, admit, frame, ask, release, register, read, write, Tag, answerOf, torn, Turn, run}
-use Rattle.demands.specs.Demands.{Storing, byRadio, byPort, told, Kept, AnyRun}
+use Rattle.demands.specs.Demands.{Storing, byRadio, byPort, lasting, Kept, AnyRun}
 use Rattle.demands.proofs.Sound.{PairKept, Keeps, Sound, free-keeps}
 use Rattle.demands.proofs.Plans.{Plan, no-plan, plan-change}
 use Rattle.demands.proofs.Rows.{Refused, Acting, wordsOf, acts, first-each}
-use Rattle.demands.proofs.Cuts.{power-torn, torn-told}
+use Rattle.demands.proofs.Cuts.{power-torn, torn-lasting}
 
 -- some store of the list puts v at word i
 abbrev Puts : List Store → ℕ → ℕ → Type 0
@@ -347,21 +347,21 @@ module _ (y : Layout) (m : List ℕ) (s : Steady y m) (h : Lows m) (v : Session)
   unfolding Next
   same-next j n o p q = subst Next (sym (ap₂ (withByte j) p q ∙ set-getD m j 0)) (stay y m s, h)
 
-  acting-next : (c : Storing) (k j : ℕ) → Acting y tag c (wordsOf tag c) → Next (torn answerOf tag (told c k) j)
+  acting-next : (c : Storing) (k j : ℕ) → Acting y tag c (wordsOf tag c) → Next (torn answerOf tag (lasting c k) j)
   unfolding tag Next
   acting-next c k j a =
       let d : Cut = record { whole = k; byte = j } in
       let xs = changeStores (y .work .at) (wordsOf tag c) in
-      subst Next (sym (torn-told tag c k j ∙ ap₂ (withByte j) (a .image (suc k)) (a .image k)))
+      subst Next (sym (torn-lasting tag c k j ∙ ap₂ (withByte j) (a .image (suc k)) (a .image k)))
       (change-step y m s h (a .idle) (wordsOf tag c) (a .plan) d, cut-lows d m xs h)
 
-  command-next : (c : Storing) (k j : ℕ) → Next (torn answerOf tag (told c k) j)
+  command-next : (c : Storing) (k j : ℕ) → Next (torn answerOf tag (lasting c k) j)
   unfolding tag
   command-next c k j = go (acts y tag c (suc k) (s .sound)) (acts y tag c k (s .sound))
     where
-      go : Refused m (answerOf tag (told c (suc k))) ⊎ Acting y tag c (wordsOf tag c) → Refused m (answerOf tag (told c k)) ⊎ Acting y tag c (wordsOf tag c)
-          → Next (torn answerOf tag (told c k) j)
-      go (inl p) (inl q) = subst Next (sym (torn-told tag c k j)) (same-next j _ _ (p .0) (q .0))
+      go : Refused m (answerOf tag (lasting c (suc k))) ⊎ Acting y tag c (wordsOf tag c) → Refused m (answerOf tag (lasting c k)) ⊎ Acting y tag c (wordsOf tag c)
+          → Next (torn answerOf tag (lasting c k) j)
+      go (inl p) (inl q) = subst Next (sym (torn-lasting tag c k j)) (same-next j _ _ (p .0) (q .0))
       go (inr a) q = acting-next c k j a
       go (inl p) (inr a) = acting-next c k j a
 

@@ -28,7 +28,7 @@ use Rattle.tag.specs.Result.{Result}
 use Rattle.tag.specs.Power.{powerUpOf}
 use Rattle.tag.specs.Table.{Input, input, liveOf, broken, comes, effect, isError, replyOr, replyOf, fits, storesOf, everything, cut, replied, rows, frameOf}
 use Rattle.demands.specs.Calls.{Tag, answerOf}
-use Rattle.demands.specs.Demands.{Storing, told}
+use Rattle.demands.specs.Demands.{Storing, lasting}
 use Rattle.demands.specs.Refusals.{Short}
 use Rattle.demands.proofs.Codes.{and-false}
 use Rattle.demands.proofs.Rows.{Rows, None, Each, first-or, none-first, first-at, heard-same, Refused, Acting, wordsOf, acts}
@@ -163,10 +163,10 @@ short =
           (let g = check-good m y e in power-fails y m g s (subst (λ (k : ℕ). s < k) (power-made y m g enough z) l));
     }
   where
-    power : (y : Layout) (t : Tag) (c : Storing) (s enough : ℕ) → checkOf (t .image) ≡ good y → answerOf t (told c enough) .number ≡ 0
-        → s < answerOf t (told c enough) .stores → answerOf t (told c s) .number ≡ 11
+    power : (y : Layout) (t : Tag) (c : Storing) (s enough : ℕ) → checkOf (t .image) ≡ good y → answerOf t (lasting c enough) .number ≡ 0
+        → s < answerOf t (lasting c enough) .stores → answerOf t (lasting c s) .number ≡ 11
     power y t c s enough e z l = go (acts y t c enough (check-good (t .image) y e))
       where
-        go : Refused (t .image) (answerOf t (told c enough)) ⊎ Acting y t c (wordsOf t c) → answerOf t (told c s) .number ≡ 11
+        go : Refused (t .image) (answerOf t (lasting c enough)) ⊎ Acting y t c (wordsOf t c) → answerOf t (lasting c s) .number ≡ 11
         go (inl r) = absurd (omega (arith, z, r .1))
         go (inr a) = a .fails s (omega (arith, l, a .stores enough))

@@ -38,7 +38,7 @@ use Rattle.tag.specs.Result.{Result, leaves, gives}
 use Rattle.tag.specs.One.{one-outcome}
 use Rattle.states.specs.Commands.{linkOf, isKilled, used, isArbitrate, isLinked}
 use Rattle.tag.specs.Power.{powerRows, powered, powerUpOf}
-use Rattle.tag.specs.Table.{Input, input, scene, comes, stateOf, liveOf, isError, effect, replyOr, replyOf, fits, dropped, replied, rows, done, frameOf, admitRows, admitted, admitOf}
+use Rattle.tag.specs.Table.{Input, input, scene, comes, stateOf, liveOf, isError, effect, replyOr, replyOf, fits, dropped, replied, rows, obeyed, frameOf, admitRows, admitted, admitOf}
 use Rattle.tag.specs.Port.{askRows, granted, askOf, holderRows, released, releaseOf, told, registerOf, readBits, readRows, shown, readOf, writeRows, written, writeOf}
 use Rattle.demands.specs.Calls.{Call, powerUp, admit, frame, ask, release, register, read, write, Tag, answerOf, sessionIn, imageIn, roomIn, powerIn, storesIn, valueIn, rowsIn, doneIn}
 use Rattle.demands.specs.Demands.{refuses, AnErrorCode, Tabled, Checks, orderOf, numbersOf, Under, Exact, Demand1}
@@ -204,8 +204,8 @@ module _ (v : Session) (m f : List ℕ) (bits fresh : ℕ) (room : List ℕ) (s 
   frame-tabled : Tabled tag call (frameOf handed)
   unfolding frameOf tag call handed
   frame-tabled =
-      first-each (Tabled tag call) (rows handed) (done handed) frame-rows
-      (zero-answer tag call (done handed) refl (silence m room (replyOf handed)) (refl, refl) refl)
+      first-each (Tabled tag call) (rows handed) (obeyed handed) frame-rows
+      (zero-answer tag call (obeyed handed) refl (silence m room (replyOf handed)) (refl, refl) refl)
 
 -- the rows before a transfer's own
 module _ (v : Session) (m : List ℕ) where

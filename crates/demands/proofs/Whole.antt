@@ -20,9 +20,9 @@ use Rattle.tag.specs.declared.Session.{Session}
 use Rattle.tag.specs.Session.{offSession}
 use Rattle.tag.specs.Power.{powerUpOf}
 use Rattle.demands.specs.Calls.{Call, Tag, answerOf, imageAfter, more, torn, Turn, run}
-use Rattle.demands.specs.Demands.{Storing, told, Stores, powerUps, wholePowerUps, Unbroken, Demand3, WholeWords, Kept, AnyRun, wholeRun, WholeRuns}
-use Rattle.demands.proofs.Rows.{Refused, Acting, wordsOf, acts, words-told}
-use Rattle.demands.proofs.Cuts.{torn-told, needs, demand-3}
+use Rattle.demands.specs.Demands.{Storing, lasting, Stores, powerUps, wholePowerUps, Unbroken, Demand3, WholeWords, Kept, AnyRun, wholeRun, WholeRuns}
+use Rattle.demands.proofs.Rows.{Refused, Acting, wordsOf, acts, words-lasting}
+use Rattle.demands.proofs.Cuts.{torn-lasting, needs, demand-3}
 use Rattle.demands.proofs.Runs.{any-run}
 
 -- a byte past the end
@@ -44,14 +44,14 @@ wholes-same (k ∷ ks) m =
 -- with the power for s stores, and no byte of the next
 module _ (y : Layout) (t : Tag) (c : Storing) (s : ℕ) where
   left : List ℕ
-  left = answerOf t (told c s) .image
+  left = answerOf t (lasting c s) .image
 
   cut : Cut
   cut = record { whole = s; byte = length left }
 
-  left-same : (ks : List ℕ) → powerUps answerOf (wholes ks left) (torn answerOf t (told c (cut .whole)) (cut .byte)) ≡ wholePowerUps answerOf ks left
+  left-same : (ks : List ℕ) → powerUps answerOf (wholes ks left) (torn answerOf t (lasting c (cut .whole)) (cut .byte)) ≡ wholePowerUps answerOf ks left
   unfolding cut left
-  left-same ks = ap (powerUps answerOf (wholes ks left)) (torn-told t c s (length left) ∙ past (answerOf t (told c (suc s)) .image) left) ∙ wholes-same ks left
+  left-same ks = ap (powerUps answerOf (wholes ks left)) (torn-lasting t c s (length left) ∙ past (answerOf t (lasting c (suc s)) .image) left) ∙ wholes-same ks left
 
   -- the byte is behind WORK, so the stores that count are those that are made
   left-reaches : Good y (t .image) → (ws : List Store) → Acting y t c ws → reaches y cut ≡ s
@@ -71,12 +71,12 @@ whole-words d y t c n enough h s ks = go (acts y t c enough g)
     all : Unbroken answerOf y t c n enough (reaches y (cut y t c s)) (wholePowerUps answerOf ks (left y t c s))
     all = subst (Unbroken answerOf y t c n enough (reaches y (cut y t c s))) (left-same y t c s ks) (d y t c n enough h .cut (cut y t c s) (wholes ks (left y t c s)))
 
-    go : Refused (t .image) (answerOf t (told c enough)) ⊎ Acting y t c (wordsOf t c)
-        → Unbroken answerOf y t c n enough (answerOf t (told c s) .stores) (wholePowerUps answerOf ks (answerOf t (told c s) .image))
+    go : Refused (t .image) (answerOf t (lasting c enough)) ⊎ Acting y t c (wordsOf t c)
+        → Unbroken answerOf y t c n enough (answerOf t (lasting c s) .stores) (wholePowerUps answerOf ks (answerOf t (lasting c s) .image))
     go (inl r) = absurd (omega (arith, h .done, r .1))
     go (inr a) =
         let made = a .stores s in
-        let need = needs y t c n enough h (wordsOf t c) (words-told t c enough) a in
+        let need = needs y t c n enough h (wordsOf t c) (words-lasting t c enough) a in
         let reach = left-reaches y t c s g (wordsOf t c) a in
         record {
           old = λ l. all .old (omega (arith, made, need, reach, l, h .some));

@@ -18,7 +18,7 @@ use Rattle.tag.specs.Session.{offSession}
 use Rattle.tag.specs.Result.{Result, result}
 use Rattle.states.specs.Commands.{isKilled}
 use Rattle.tag.specs.Power.{powerRows, powered, powerUpOf}
-use Rattle.tag.specs.Table.{input, liveOf, effect, rows, done, frameOf, admitRows, admitted, admitOf}
+use Rattle.tag.specs.Table.{input, liveOf, effect, rows, obeyed, frameOf, admitRows, admitted, admitOf}
 use Rattle.tag.specs.Port.{askRows, granted, askOf, holderRows, released, releaseOf, numberIn, told, registerOf, readRows, shown, readOf, portWords, writeRows, written, writeOf}
 
 -- what a caller hands over beside the session and the image: a power-up's s; an admission's number; a frame's bytes, bit count, fresh word, room and s;
@@ -162,7 +162,7 @@ rowsIn t (write at d s) = writeRows (t .session) (t .image) at d s
 abbrev pub doneIn : Tag → Call → Result
 doneIn t (powerUp s) = powered (t .image)
 doneIn t (admit n) = admitted (t .session) n
-doneIn t (frame f bits fresh room s) = done (input (t .session) (t .image) f bits fresh room s)
+doneIn t (frame f bits fresh room s) = obeyed (input (t .session) (t .image) f bits fresh room s)
 doneIn t ask = granted (t .session)
 doneIn t release = released (t .session)
 doneIn t register = told (liveOf (t .session .power))

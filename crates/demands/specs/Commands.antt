@@ -3,14 +3,14 @@
 use Prim.Native.Nat.{ℕ, _+_, _-_, _*_, _≤_, _<_}
 use mathlib.Core.Path.{_≡_}
 use mathlib.Core.Logic.{_≢_, _⊎_}
-use mathlib.Core.Bool.{Bool, true, false, cond, _||_}
+use mathlib.Core.Bool.{Bool, true, false, cond, not, _||_}
 use mathlib.Core.List.{List, [], _∷_}
 use lib.Bits.{bitXor, bitOr}
 use lib.Dec.{eqb}
 use lib.ListN.{length, replicate}
 use Rattle.bits.specs.Words.{wordAt, Store, store, after}
 use Rattle.bits.specs.Bits.{fieldAt, wordsBits}
-use Rattle.bits.specs.Below.{below}
+use Rattle.bits.specs.Below.{below, every}
 use Rattle.crc.specs.Crc.{crcOf}
 use Rattle.image.specs.declared.Layout.{Layout}
 use Rattle.image.specs.Layout.{pairsIn}
@@ -40,8 +40,8 @@ use Rattle.tag.specs.Result.{Result, leaves, gives}
 use Rattle.states.specs.Commands.{accessWord, killWord}
 use Rattle.tag.specs.Power.{poweredTo}
 use Rattle.tag.specs.Table.{answered}
-use Rattle.tag.specs.Port.{numberIn, writtenWords, someUnwritten}
-use Rattle.demands.specs.Facts.{Readable, Writable, Lockable, PermaLockable}
+use Rattle.tag.specs.Port.{numberIn}
+use Rattle.demands.specs.Facts.{Readable, Writable, Lockable, PermaLockable, PortWrites, Tells, marked}
 use Rattle.demands.specs.Calls.{powerUp, frame, Program, asked, Idle}
 use Rattle.demands.specs.Calls as call
 
@@ -166,8 +166,10 @@ pub record Engine (A : Program) (y : Layout) (m : List ℕ) (st : State) (r : Re
       → asked A (on st true r) m (call.read at n room) ≡ gives 0 (on st true r) (16 * n) 0 m (packed (wordsBits m (y .user .at + at) n) room)
   -- the writable words, as one change; bit 1 where some word wasn't written
   pub write : (at : ℕ) (d : List ℕ) (n s : ℕ) → st ≢ state.Killed → length d ≡ 2 * n → 1 ≤ n → n ≤ 255 → at + n ≤ y .user .words → n ≤ pairsIn y
-      → let stores = changeStores (y .work .at) (writtenWords y m at d n) in length stores ≤ s
-      → asked A (on st true r) m (call.write at d s) ≡ gives 0 (on st true (record { unwritten = r .unwritten || someUnwritten y m at n; killed = r .killed })) 0 (length stores) (after m stores) []
+      → (marks : ℕ → Bool) → ((j : ℕ) → j < n → Tells (marks j) (PortWrites y m (at + j)))
+      → let stores = changeStores (y .work .at) (marked marks (λ j. store (y .user .at + at + j) (wordAt d j)) n) in length stores ≤ s
+      → asked A (on st true r) m (call.write at d s)
+      ≡ gives 0 (on st true (record { unwritten = r .unwritten || not (every marks n); killed = r .killed })) 0 (length stores) (after m stores) []
   -- when Killed: zeros, and nothing stored; bit 0 is set
   pub read-killed : (at n : ℕ) (room : List ℕ) → st ≡ state.Killed → 1 ≤ n → n ≤ 255 → at + n ≤ y .user .words → 2 * n ≤ length room
       → asked A (on st true r) m (call.read at n room) ≡ gives 0 (on st true (record { unwritten = r .unwritten; killed = true })) (16 * n) 0 m (packed (replicate (16 * n) 0) room)

@@ -116,9 +116,10 @@ pub data Storing : Type 0 where
   byRadio : List ℕ → ℕ → ℕ → List ℕ → Storing
   byPort : ℕ → List ℕ → Storing
 
-abbrev pub told : Storing → ℕ → Call
-told (byRadio f bits fresh room) s = frame f bits fresh room s
-told (byPort at d) s = write at d s
+-- the call, where the power lasts for s stores
+abbrev pub lasting : Storing → ℕ → Call
+lasting (byRadio f bits fresh room) s = frame f bits fresh room s
+lasting (byPort at d) s = write at d s
 
 -- words go in rising address order
 abbrev pub Rising : List Store → Type 0
@@ -131,8 +132,8 @@ pub record Stores (A : Program) (y : Layout) (t : Tag) (c : Storing) (n enough :
   pub bytes : Bytes (t .image)
   pub idle : Idle y (t .image)
   pub some : 1 ≤ n
-  pub done : A t (told c enough) .number ≡ 0
-  pub words : length (wordsIn t (told c enough)) ≡ n
+  pub done : A t (lasting c enough) .number ≡ 0
+  pub words : length (wordsIn t (lasting c enough)) ≡ n
 
 -- a power-up of the image m with power for s stores; the image after power-ups, each cut
 abbrev pub start : Program → List ℕ → ℕ → Result
@@ -151,16 +152,16 @@ SameOnce A y m n =
 -- m, which is left where k stores count as made, comes to the old words or to the new ones; no power-up of it that lasts for 257 stores (255 words, the count 0 and the CRC-16) is refused or cut
 pub record Unbroken (A : Program) (y : Layout) (t : Tag) (c : Storing) (n enough k : ℕ) (m : List ℕ) : Type 0 where
   pub old : k ≤ 2 * n → SameOnce A y m (t .image)
-  pub new : 2 * n < k → SameOnce A y m (A t (told c enough) .image)
+  pub new : 2 * n < k → SameOnce A y m (A t (lasting c enough) .image)
   pub starts : (u : ℕ) → 257 ≤ u → start A m u .number ≡ 0
 
 -- it makes 3n + 2 stores for its words, which rise; the two images to compare with have a whole power-up; and cut anywhere it is unbroken
 pub record Cuts (A : Program) (y : Layout) (t : Tag) (c : Storing) (n enough : ℕ) : Type 0 where
-  pub stores : A t (told c enough) .stores ≡ 3 * n + 2
-  pub rising : Rising (wordsIn t (told c enough))
+  pub stores : A t (lasting c enough) .stores ≡ 3 * n + 2
+  pub rising : Rising (wordsIn t (lasting c enough))
   pub never : (u : ℕ) → 257 ≤ u → start A (t .image) u .number ≡ 0
-  pub finished : (u : ℕ) → 257 ≤ u → start A (A t (told c enough) .image) u .number ≡ 0
-  pub cut : (f : Cut) (fs : List Cut) → Unbroken A y t c n enough (reaches y f) (powerUps A fs (torn A t (told c (f .whole)) (f .byte)))
+  pub finished : (u : ℕ) → 257 ≤ u → start A (A t (lasting c enough) .image) u .number ≡ 0
+  pub cut : (f : Cut) (fs : List Cut) → Unbroken A y t c n enough (reaches y f) (powerUps A fs (torn A t (lasting c (f .whole)) (f .byte)))
 
 abbrev pub Demand3 : Program → Type 0
 Demand3 A = (y : Layout) (t : Tag) (c : Storing) (n enough : ℕ) → Stores A y t c n enough → Cuts A y t c n enough
@@ -194,7 +195,7 @@ wholeRun A m (c ∷ cs) = wholeRun A (imageAfter A (record { session = c .0; ima
 abbrev pub WholeWords : Program → Type 0
 WholeWords A =
     (y : Layout) (t : Tag) (c : Storing) (n enough : ℕ) → Stores A y t c n enough
-    → (s : ℕ) (ks : List ℕ) → let r = A t (told c s) in Unbroken A y t c n enough (r .stores) (wholePowerUps A ks (r .image))
+    → (s : ℕ) (ks : List ℕ) → let r = A t (lasting c s) in Unbroken A y t c n enough (r .stores) (wholePowerUps A ks (r .image))
 
 abbrev pub WholeRuns : Program → Type 0
 WholeRuns A =

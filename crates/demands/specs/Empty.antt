@@ -32,7 +32,7 @@ use Rattle.tag.specs.Result.{Result}
 use Rattle.tag.specs.Power.{powerUpOf}
 use Rattle.tag.specs.Table.{Input, input, everything, effect, storesOf, frameOf}
 use Rattle.demands.specs.Calls.{Call, powerUp, admit, frame, ask, release, register, read, write, Tag, Program, answerOf, torn}
-use Rattle.demands.specs.Demands.{Demand1, Demand3, Stores, told}
+use Rattle.demands.specs.Demands.{Demand1, Demand3, Stores, lasting}
 use Rattle.demands.specs.Commands.{Demand2, hears, link, done}
 use Rattle.demands.specs.Worked.{write3, readTwo, secured, sent-cases}
 use Rattle.demands.specs.Torn.{tag, p7}
@@ -128,9 +128,9 @@ unfolding frameOf layoutOf headerGood blocksIn contentGood rulesHold worked word
 sham-stores = record { bytes = worked-bytes; idle = met .idle; some = lit≤ tt; done = refl; words = refl }
 
 pub record Sham : Type 0 where
-  pub starts : answerOf (record { session = offSession; image = torn shamming tag (told p7 1) 156 }) (powerUp 257) .number ≡ 0
-  pub mixes : wordAt (answerOf (record { session = offSession; image = torn shamming tag (told p7 1) 156 }) (powerUp 257) .image) 31 ≡ 0xABCD
-  pub tears : wordAt (answerOf (record { session = offSession; image = torn shamming tag (told p7 0) 62 }) (powerUp 257) .image) 31 ≡ 0xAB0A
+  pub starts : answerOf (record { session = offSession; image = torn shamming tag (lasting p7 1) 156 }) (powerUp 257) .number ≡ 0
+  pub mixes : wordAt (answerOf (record { session = offSession; image = torn shamming tag (lasting p7 1) 156 }) (powerUp 257) .image) 31 ≡ 0xABCD
+  pub tears : wordAt (answerOf (record { session = offSession; image = torn shamming tag (lasting p7 0) 62 }) (powerUp 257) .image) 31 ≡ 0xAB0A
   pub whole : powerUpOf worked 257 .number ≡ 0
   pub old : wordAt (powerUpOf worked 257 .image) 31 ≡ 10
 
@@ -150,5 +150,5 @@ pub inventing-falls : (n : ℕ) → Demand1 (inventing n) → Demand2 (inventing
 unfolding frameOf layoutOf headerGood blocksIn contentGood rulesHold worked wordAt withWord wordsBits bitsOf crcOf fieldAt pointerAt heardOf checksumRight filled packed checked writeCode write3
 inventing-falls n d e =
     let p : n ≡ 5 = ap (λ (r : Result). r .stores) (must-write (inventing n) e) ∙ computed .stores in
-    let q : n ≡ 2 = ap (λ (r : Result). r .stores) (d .table tag (told p7 2) .lost refl .1) in
+    let q : n ≡ 2 = ap (λ (r : Result). r .stores) (d .table tag (lasting p7 2) .lost refl .1) in
     omega (arith, p, q)

@@ -1,14 +1,16 @@
--- The rights and codes of the rules as facts (RULES 3.18 to 3.22): what must hold so that no error code applies. Assumes nothing.
-use Prim.Native.Nat.{ℕ, _+_, _*_, _/_, _%_, _≤_, _<_}
+-- The rights and codes of the rules as facts (RULES 3.18 to 3.22, and 4.4 of the port): what must hold so that no error code applies. Assumes nothing.
+use Prim.Native.Nat.{ℕ, zero, suc, _+_, _*_, _/_, _%_, _≤_, _<_}
 use mathlib.Core.Path.{_≡_}
 use mathlib.Core.Logic.{_≢_, _⊎_}
-use mathlib.Core.Bool.{Bool, true}
-use mathlib.Core.List.{List}
+use mathlib.Core.Bool.{Bool, true, false, cond}
+use mathlib.Core.List.{List, [], _∷_, _++_}
+use Rattle.bits.specs.Words.{Store}
 use Rattle.bits.specs.Bits.{bitAt}
 use Rattle.image.specs.declared.Layout.{Layout}
 use Rattle.image.specs.Layout.{blocksIn, pairsIn}
 use Rattle.image.specs.Content.{lockWord, lengthOf, permalock}
 use Rattle.rights.specs.Rights.{bankOf, pwdBit, permaBit, lockedTo}
+use Rattle.states.specs.Commands.{accessWord}
 
 -- 3.18: pair k of the lock word, pwd and permalock: 00 and 01 are open in Open and Secured, 10 in Secured, 11 never
 abbrev pub Opens : Bool → ℕ → ℕ → Type 0
@@ -66,3 +68,17 @@ pub record PermaLockable (y : Layout) (m : List ℕ) (p n : ℕ) (f : List ℕ) 
   pub within : p + n ≤ y .perma .words
   pub blocks : (k : ℕ) → k < 16 * n → bitAt f (at + k) ≢ 0 → 16 * p + k < blocksIn y
   pub user : pwdBit (lockWord y m) 4 ≡ 0 → permaBit (lockWord y m) 4 ≢ 1
+
+-- 4.4: the port writes a USER word where the access password is 0, USER's pwd bit is 0 and the word's block is not permalocked
+abbrev pub PortWrites : Layout → List ℕ → ℕ → Type 0
+PortWrites y m i =
+    (accessWord y m 0 ≡ 0) × (accessWord y m 1 ≡ 0) × (pwdBit (lockWord y m) 4 ≡ 0) × (permalock y m (i / y .block) ≡ 0)
+
+-- a mark tells whether P; and of n words those that are marked, in order
+abbrev pub Tells : Bool → Type 0 → Type 0
+Tells true P = P
+Tells false P = P → ⊥
+
+abbrev pub marked : (ℕ → Bool) → (ℕ → Store) → ℕ → List Store
+marked marks word zero = []
+marked marks word (suc n) = marked marks word n ++ cond (marks n) (word n ∷ []) []

@@ -33,13 +33,13 @@ use Rattle.stores.specs.Worked.{worked-bytes}
 use Rattle.tag.specs.declared.Answer.the-variants as answer
 use Rattle.states.specs.declared.State.the-variants as state
 use Rattle.tag.specs.declared.Outcome.{Outcome}
-use Rattle.states.specs.Commands.{killWord}
+use Rattle.states.specs.Commands.{accessWord, killWord}
 use Rattle.tag.specs.Power.{powerUpOf}
 use Rattle.tag.specs.Table.{frameOf}
 use Rattle.tag.specs.Port.{writeOf}
 use Rattle.demands.specs.Calls.{Tag, frame, answerOf, Meets, Idle}
-use Rattle.demands.specs.Demands.{byPort, told, Stores}
-use Rattle.demands.specs.Facts.{Readable, Writable, Lockable, PermaLockable}
+use Rattle.demands.specs.Demands.{byPort, lasting, Stores}
+use Rattle.demands.specs.Facts.{Readable, Writable, Lockable, PermaLockable, PortWrites}
 use Rattle.demands.specs.Commands.{Air, Says, Enough, wordsTo}
 use Rattle.demands.specs.Worked.{reqRn, write3, readTwo, usedUp}
 use Rattle.demands.specs.Torn.{tag, p7}
@@ -127,9 +127,13 @@ perma-lockable e p q b =
       user = λ z f. omega (arith, q, f);
     }
 
+port-open : accessWord workedLayout worked 0 ≡ 0 → accessWord workedLayout worked 1 ≡ 0 → pwdBit (lockWord workedLayout worked) 4 ≡ 0
+    → every (λ j. eqb (permalock workedLayout worked ((2 + j) / 4)) 0) 4 ≡ true → (j : ℕ) → j < 4 → PortWrites workedLayout worked (2 + j)
+port-open a b o e j l = (a, b, o, eqb-true _ _ (every-at (λ j. eqb (permalock workedLayout worked ((2 + j) / 4)) 0) 4 e j l))
+
 pub record Met : Type 0 where
   -- demand 1: an outcome that meets the promise
-  pub one : Meets answerOf tag (frame write3 66 0x1234 (replicate 12 0xAA) 5) outcome (answerOf tag (told p7 5) .image) (answerOf tag (told p7 5) .room)
+  pub one : Meets answerOf tag (frame write3 66 0x1234 (replicate 12 0xAA) 5) outcome (answerOf tag (lasting p7 5) .image) (answerOf tag (lasting p7 5) .room)
   -- all demands: a good image with nothing pending
   pub idle : Idle workedLayout worked
   -- demand 2: a frame for each command, and no code that applies
@@ -155,11 +159,12 @@ pub record Met : Type 0 where
   pub permalocks-right : PermaLockable workedLayout worked 0 1 perma3 35
   pub nak : heardOf (0xC0 ∷ []) 8 ≡ heard.nak
   pub engine : (2 + 4 ≤ workedLayout .user .words) × (length fourWords ≡ 8)
+  pub engine-words : (j : ℕ) → j < 4 → PortWrites workedLayout worked (2 + j)
   -- demand 3: a Write of one word and an SPI write of four, done; the power-ups after their cuts, whole
   pub radio-done : Stores answerOf workedLayout tag p7 1 5
-  pub radio-whole : (powerUpOf (answerOf tag (told p7 2) .image) 257 .number ≡ 0) × (powerUpOf (answerOf tag (told p7 3) .image) 257 .number ≡ 0)
+  pub radio-whole : (powerUpOf (answerOf tag (lasting p7 2) .image) 257 .number ≡ 0) × (powerUpOf (answerOf tag (lasting p7 3) .image) 257 .number ≡ 0)
   pub port-done : Stores answerOf workedLayout holder (byPort 2 fourWords) 4 14
-  pub port-whole : powerUpOf (answerOf holder (told (byPort 2 fourWords) 9) .image) 257 .number ≡ 0
+  pub port-whole : powerUpOf (answerOf holder (lasting (byPort 2 fourWords) 9) .image) 257 .number ≡ 0
   -- any run: an image with a permalocked block
   pub locked-block : Bytes locked × Idle workedLayout locked × (permalock workedLayout locked 0 ≡ 1)
 
@@ -191,6 +196,7 @@ met =
       permalocks-right = perma-lockable refl refl refl refl;
       nak = refl;
       engine = (lit≤ tt, refl);
+      engine-words = port-open refl refl refl refl;
       radio-done = record { bytes = worked-bytes; idle = record { sound = refl; nothing = refl }; some = lit≤ tt; done = refl; words = refl };
       radio-whole = (refl, refl);
       port-done = record { bytes = worked-bytes; idle = record { sound = refl; nothing = refl }; some = lit≤ tt; done = refl; words = refl };

@@ -34,7 +34,7 @@ use Rattle.tag.specs.Session.{offSession, on}
 use Rattle.tag.specs.Result.{Result, leaves}
 use Rattle.states.specs.Commands.{accessWord, killWord}
 use Rattle.demands.specs.Calls.{Call, powerUp, admit, ask, release, register, read, write, Tag, Program, asked, Idle}
-use Rattle.demands.specs.Demands.{Storing, told}
+use Rattle.demands.specs.Demands.{Storing, lasting}
 use Rattle.demands.specs.Facts.{MayRead, MayWrite, Within, Past, TakesPc, AllRight}
 use Rattle.demands.specs.Commands.{Air, hears, linked, link, Says}
 
@@ -224,8 +224,8 @@ given room power a = record { image = a .image; frame = a .frame; bits = a .bits
 pub record Short (A : Program) : Type 0 where
   pub room : (a : Air) (s : Session) (other : List ℕ) (enough : ℕ) → let r = hears A (given other enough a) s in
       (r .number ≡ 0) ⊎ (r .number ≡ 10) → 8 * length (a .room) < r .reply → hears A a s ≡ stays 4 a s
-  pub power : (y : Layout) (t : Tag) (c : Storing) (s enough : ℕ) → checkOf (t .image) ≡ good y → let r = A t (told c enough) in
-      r .number ≡ 0 → s < r .stores → A t (told c s) .number ≡ 11
+  pub power : (y : Layout) (t : Tag) (c : Storing) (s enough : ℕ) → checkOf (t .image) ≡ good y → let r = A t (lasting c enough) in
+      r .number ≡ 0 → s < r .stores → A t (lasting c s) .number ≡ 11
   pub start : (y : Layout) (m : List ℕ) (v : Session) (s enough : ℕ) → checkOf m ≡ good y → let r = asked A v m (powerUp enough) in
       r .number ≡ 0 → s < r .stores → asked A v m (powerUp s) .number ≡ 11
 

@@ -22,7 +22,7 @@ use Rattle.stores.specs.Cuts.{Cut}
 use Rattle.tag.specs.Power.{powerUpOf}
 use Rattle.tag.specs.Table.{frameOf}
 use Rattle.demands.specs.Calls.{Tag, answerOf, torn}
-use Rattle.demands.specs.Demands.{Storing, byRadio, told, powerUps, SameOnce}
+use Rattle.demands.specs.Demands.{Storing, byRadio, lasting, powerUps, SameOnce}
 use Rattle.demands.specs.Worked.{write3, secured}
 use Rattle.demands.specs.Cases.{Case, p, Hold, outside}
 
@@ -42,7 +42,7 @@ none = 156
 
 -- after the write cut so; after a power-up, cut so, of an image
 abbrev written : ℕ → ℕ → List ℕ
-written k j = torn answerOf tag (told p7 k) j
+written k j = torn answerOf tag (lasting p7 k) j
 
 abbrev powered : ℕ → ℕ → List ℕ → List ℕ
 powered k j m = powerUps answerOf (cut k j ∷ []) m
@@ -80,7 +80,7 @@ torn-table =
     ∷ p 8 (written 3 63) (word 0x00CD)
     ∷ p 9 (written 4 90) (word 0xABCD)
     ∷ p 10 (written 4 91) finished
-    ∷ p 11 (answerOf tag (told p7 5) .image) finished
+    ∷ p 11 (answerOf tag (lasting p7 5) .image) finished
     -- of each store of the power-up that follows a cut after the count: the word, the count 0; and of the CRC-16, where another word stood
     ∷ p 12 (written 3 none) announced
     ∷ p 13 (powered 0 62 announced) (word 0xAB0A)
@@ -135,12 +135,12 @@ four =
 apart : (m n : List ℕ) (v w : ℕ) → Comes m v → Comes n w → SameOnce answerOf workedLayout m n → v ≡ w
 apart m n v w p q h = sym (p .shows) ∙ h 257 257 (p .starts) (q .starts) 31 (lit< tt) ∙ q .shows
 
-count-images : (written 2 90 ≡ two 0xABCD) × (written 2 91 ≡ announced) × (answerOf tag (told p7 5) .image ≡ finished)
+count-images : (written 2 90 ≡ two 0xABCD) × (written 2 91 ≡ announced) × (answerOf tag (lasting p7 5) .image ≡ finished)
 unfolding frameOf layoutOf headerGood blocksIn contentGood rulesHold worked wordAt withWord wordsBits bitsOf crcOf fieldAt pointerAt heardOf checksumRight filled packed checked writeCode write3
 count-images = (refl, refl, refl)
 
 -- wrong: the whole stores alone decide, so that at most 2n of them come to the old words
-pub whole-alone : ((f : Cut) → f .whole ≤ 2 → SameOnce answerOf workedLayout (torn answerOf tag (told p7 (f .whole)) (f .byte)) worked) → ⊥
+pub whole-alone : ((f : Cut) → f .whole ≤ 2 → SameOnce answerOf workedLayout (torn answerOf tag (lasting p7 (f .whole)) (f .byte)) worked) → ⊥
 whole-alone h =
     let z : _≡_ {A = ℕ} 0xABCD 10 =
     apart announced worked 0xABCD 10 (four .low) (four .before) (subst (λ (m : List ℕ). SameOnce answerOf workedLayout m worked) (count-images .1) (h (cut 2 91) (lit≤ tt))) in
@@ -148,10 +148,10 @@ whole-alone h =
 
 -- wrong: the count's high byte decides
 pub high-decides : ((f : Cut) → 2 < f .whole + cond (eqb (f .byte) (2 * 45)) 1 0
-    → SameOnce answerOf workedLayout (torn answerOf tag (told p7 (f .whole)) (f .byte)) (answerOf tag (told p7 5) .image)) → ⊥
+    → SameOnce answerOf workedLayout (torn answerOf tag (lasting p7 (f .whole)) (f .byte)) (answerOf tag (lasting p7 5) .image)) → ⊥
 high-decides h =
     let z : _≡_ {A = ℕ} 10 0xABCD =
     apart (two 0xABCD) finished 10 0xABCD (four .high) (four .done)
     (subst (SameOnce answerOf workedLayout (two 0xABCD)) (count-images .2)
-    (subst (λ (m : List ℕ). SameOnce answerOf workedLayout m (answerOf tag (told p7 5) .image)) (count-images .0) (h (cut 2 90) (lit< tt)))) in
+    (subst (λ (m : List ℕ). SameOnce answerOf workedLayout m (answerOf tag (lasting p7 5) .image)) (count-images .0) (h (cut 2 90) (lit< tt)))) in
     omega arith

@@ -149,11 +149,11 @@ rows i =
     ∷ []
 
 -- none of them: 0; and the outcome of a frame
-abbrev pub done : Input → Result
-done i = replied i 0 (effect i .state) (storesOf i)
+abbrev pub obeyed : Input → Result
+obeyed i = replied i 0 (effect i .state) (storesOf i)
 
 unfoldable pub frameOf : Input → Result
-frameOf i = first (rows i) (done i)
+frameOf i = first (rows i) (obeyed i)
 
 abbrev pub input : Session → List ℕ → List ℕ → ℕ → ℕ → List ℕ → ℕ → Input
 input session image frame bits fresh room power =
