@@ -1,21 +1,24 @@
 -- Word rights: the tests of `rights` and the facts of the rules say the same. Assumes nothing.
-use Prim.Native.Nat.{ℕ, zero, suc, _+_, _/_, _≤_, _<_}
+use Prim.Native.Nat.{ℕ, zero, suc, _+_, _/_, _%_, _^_, _≤_, _<_}
 use mathlib.Core.Path.{_≡_, refl, sym, ap, ap₂, _∙_}
 use mathlib.Core.Logic.{_≢_, _⊎_, inl, inr, ⊎-elim}
 use mathlib.Core.Bool.{true≢false, false≢true, Bool, true, false, cond, not, _&&_, _||_}
 use mathlib.Core.List.{List, [], _∷_, _++_}
 use native.Mathlib.Omega.{arith}
+use native.Mathlib.Nat.{mod-lt}
+use lib.Bits.{bitAnd, bitOr, bitXor, and-shr, and-mod, or-shr, or-mod, xor-shr, xor-mod}
 use lib.Dec.{eqb, ltb}
 use borrow.Author.Tests.{eqb-true, eqb-false, ltb-true, ltb-false, eq-eqb, ne-eqb, lt-ltb, le-ltb, not-true}
 use Rattle.bits.specs.Words.{wordAt, Store, store}
 use Rattle.bits.specs.Below.{every}
-use Rattle.bits.proofs.Below.{and-left, and-right, and-both, or-cases}
+use Rattle.bits.proofs.Fields.{locked-lt}
+use Rattle.bits.proofs.Below.{every-at, and-left, and-right, and-both, or-cases}
 use Rattle.image.specs.declared.Layout.{Layout}
 use Rattle.image.specs.Content.{lockWord, permalock}
-use Rattle.rights.specs.Rights.{pwdBit, permaBit, opens, pairOf, mayRead, blockOpen, mayWrite}
+use Rattle.rights.specs.Rights.{pwdBit, permaBit, opens, pairOf, mayRead, blockOpen, mayWrite, lockedTo}
 use Rattle.states.specs.Commands.{accessWord, zeroAccess}
 use Rattle.tag.specs.Port.{portOpen, portWrites, writtenWords, someUnwritten}
-use Rattle.demands.specs.Facts.{Opens, MayRead, MayWrite, PortWrites, Tells, marked}
+use Rattle.demands.specs.Facts.{Opens, MayRead, MayWrite, bitIn, Masked, PortWrites, Tells, marked}
 
 opens-if : (q : Bool) (lock k : ℕ) → Opens q lock k → opens q lock k ≡ true
 opens-if q lock k (inl e) = ap (λ (t : Bool). t || (q && eqb (permaBit lock k) 0)) (eq-eqb (pwdBit lock k) 0 e)
@@ -125,3 +128,45 @@ module _ (y : Layout) (m : List ℕ) where
     pub marked-every : (n : ℕ) → ((j : ℕ) → j < n → Tells (marks j) (PortWrites y m (at + j))) → every marks n ≡ every (λ j. portWrites y m (at + j)) n
     marked-every zero h = refl
     marked-every (suc n) h = ap₂ _&&_ (marked-every n (λ j l. h j (omega arith))) (mark-is n (h n (omega arith)))
+
+-- the bits of a lock word
+op-bit : (f : ℕ → ℕ → ℕ) → ((a b k : ℕ) → f a b / 2 ^ k ≡ f (a / 2 ^ k) (b / 2 ^ k)) → ((a b k : ℕ) → f a b % 2 ^ k ≡ f (a % 2 ^ k) (b % 2 ^ k))
+    → (a b t : ℕ) → bitIn (f a b) t ≡ f (bitIn a t) (bitIn b t)
+op-bit f shifts takes a b t = ap (λ (x : ℕ). x % 2) (shifts a b t) ∙ takes (a / 2 ^ t) (b / 2 ^ t) 1
+
+one-bit : (o a : ℕ) → o < 2 → a < 2 → (bitOr (bitAnd o (bitXor 1 1)) (bitAnd a 1) ≡ a) × (bitOr (bitAnd o (bitXor 0 1)) (bitAnd a 0) ≡ o)
+one-bit zero zero p q = (refl, refl)
+one-bit zero (suc zero) p q = (refl, refl)
+one-bit (suc zero) zero p q = (refl, refl)
+one-bit (suc zero) (suc zero) p q = (refl, refl)
+one-bit zero (suc (suc a)) p q = absurd (omega arith)
+one-bit (suc zero) (suc (suc a)) p q = absurd (omega arith)
+one-bit (suc (suc o)) a p q = absurd (omega arith)
+
+module _ (old mask action : ℕ) where
+  locked-bit : (t : ℕ) → t < 10 → bitIn (lockedTo old mask action) t ≡ bitOr (bitAnd (bitIn old t) (bitXor (bitIn mask t) 1)) (bitAnd (bitIn action t) (bitIn mask t))
+  unfolding lockedTo
+  locked-bit t l =
+      op-bit bitOr or-shr or-mod (bitAnd old (bitXor mask 1023)) (bitAnd action mask) t
+      ∙ ap₂ bitOr
+      (op-bit bitAnd and-shr and-mod old (bitXor mask 1023) t
+      ∙ ap (bitAnd (bitIn old t)) (op-bit bitXor xor-shr xor-mod mask 1023 t ∙ ap (bitXor (bitIn mask t)) (eqb-true _ _ (every-at (λ t. eqb (bitIn 1023 t) 1) 10 refl t l))))
+      (op-bit bitAnd and-shr and-mod action mask t)
+
+  small : (w t : ℕ) → bitIn w t < 2
+  small w t = mod-lt (w / 2 ^ t) (omega arith)
+
+  pub lock-masked : Masked old mask action (lockedTo old mask action)
+  unfolding lockedTo
+  lock-masked =
+      record {
+        masked = λ t l e.
+            locked-bit t l
+            ∙ ap (λ (x : ℕ). bitOr (bitAnd (bitIn old t) (bitXor x 1)) (bitAnd (bitIn action t) x)) e
+            ∙ one-bit (bitIn old t) (bitIn action t) (small old t) (small action t) .0;
+        kept = λ t l e.
+            locked-bit t l
+            ∙ ap (λ (x : ℕ). bitOr (bitAnd (bitIn old t) (bitXor x 1)) (bitAnd (bitIn action t) x)) e
+            ∙ one-bit (bitIn old t) (bitIn action t) (small old t) (small action t) .1;
+        small = locked-lt old mask action;
+      }

@@ -41,7 +41,7 @@ use Rattle.states.specs.Commands.{accessWord, killWord}
 use Rattle.tag.specs.Power.{poweredTo}
 use Rattle.tag.specs.Table.{answered}
 use Rattle.tag.specs.Port.{numberIn}
-use Rattle.demands.specs.Facts.{Readable, Writable, Lockable, PermaLockable, PortWrites, Tells, marked}
+use Rattle.demands.specs.Facts.{Readable, Writable, Lockable, Masked, PermaLockable, PortWrites, Tells, marked}
 use Rattle.demands.specs.Calls.{powerUp, frame, Program, asked, Idle}
 use Rattle.demands.specs.Calls as call
 
@@ -190,5 +190,6 @@ pub record Start (A : Program) (y : Layout) (m n : List ℕ) : Type 0 where
 pub record Demand2 (A : Program) : Type 0 where
   pub start : (y : Layout) (m : List ℕ) → checkOf m ≡ good y → Start A y m (after m (powerStores y m))
   pub radio : (y : Layout) (a : Air) (r : Register) → Idle y (a .image) → Radio A y a r
+  pub locked : (old mask action : ℕ) → Masked old mask action (lockedTo old mask action)
   pub calls : (m : List ℕ) (st : State) (r : Register) → Calls A m st r
   pub engine : (y : Layout) (m : List ℕ) (st : State) (r : Register) → Idle y m → Engine A y m st r

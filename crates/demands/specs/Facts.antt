@@ -1,5 +1,5 @@
 -- The rights and codes of the rules as facts (RULES 3.18 to 3.22, and 4.4 of the port): what must hold so that no error code applies. Assumes nothing.
-use Prim.Native.Nat.{ℕ, zero, suc, _+_, _*_, _/_, _%_, _≤_, _<_}
+use Prim.Native.Nat.{ℕ, zero, suc, _+_, _*_, _/_, _%_, _^_, _≤_, _<_}
 use mathlib.Core.Path.{_≡_}
 use mathlib.Core.Logic.{_≢_, _⊎_}
 use mathlib.Core.Bool.{Bool, true, false, cond}
@@ -62,6 +62,15 @@ pub record Lockable (y : Layout) (m : List ℕ) (mask action : ℕ) : Type 0 whe
       (k : ℕ) → k < 5 → permaBit old k ≡ 1 → (permaBit new k ≡ 1) × (pwdBit new k ≡ pwdBit old k)
   pub user : let new = lockedTo (lockWord y m) mask action in
       mask % 4 ≢ 0 → pwdBit new 4 ≡ 0 → permaBit new 4 ≡ 1 → (i : ℕ) → i < blocksIn y → permalock y m i ≡ 0
+
+-- 3.21: each bit of the lock word after a Lock is the action's where the mask has it, else the old one
+abbrev pub bitIn : ℕ → ℕ → ℕ
+bitIn w t = w / 2 ^ t % 2
+
+pub record Masked (old mask action new : ℕ) : Type 0 where
+  pub masked : (t : ℕ) → t < 10 → bitIn mask t ≡ 1 → bitIn new t ≡ bitIn action t
+  pub kept : (t : ℕ) → t < 10 → bitIn mask t ≡ 0 → bitIn new t ≡ bitIn old t
+  pub small : old < 1024 → action < 1024 → new < 1024
 
 -- BlockPermalock: within PERMA; and where it locks, only blocks that exist, and USER not at 01
 pub record PermaLockable (y : Layout) (m : List ℕ) (p n : ℕ) (f : List ℕ) (at : ℕ) : Type 0 where
