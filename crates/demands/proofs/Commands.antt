@@ -42,7 +42,8 @@ use Rattle.states.specs.Commands.{asksOf, linkOf, isCovered, isKilled, wrong, w
 use Rattle.plans.specs.Effects.{Effect, effectOf}
 use Rattle.tag.specs.Table.{Input, input, malformed, checksumWrong, broken, comes, effect, isError, replyOr, replyOf, storesOf, fits, replied, rows, frameOf, admitOf}
 use Rattle.demands.specs.Facts.{marked}
-use Rattle.demands.proofs.Rights.{marked-words, marked-every, lock-masked}
+use Rattle.demands.proofs.Rights.{marked-words, marked-every}
+use Rattle.demands.proofs.Terms.{terms-so}
 use Rattle.tag.specs.Port.{badCount, badData, refusals, withKilled, withUnwritten, someUnwritten, writtenWords, readBits, portWords, askOf, releaseOf, registerOf, readOf, writeOf}
 use Rattle.demands.specs.Calls.{answerOf, Idle}
 use Rattle.demands.specs.Commands.{Air, hears, linked, link, done, Does, Radio, Calls, Engine, Demand2}
@@ -343,7 +344,7 @@ unfolding admitOf askOf releaseOf registerOf
 calls-so m st r = record { admit = λ n. refl; ask = λ d. rw (not-linked st d); release = refl; register = refl }
 
 pub demand-2 : Demand2 answerOf
-demand-2 = record { start = started-so; radio = radio-at; locked = lock-masked; calls = calls-so; engine = engine-at }
+demand-2 = record { terms = terms-so; start = started-so; radio = radio-at; calls = calls-so; engine = engine-at }
   where
     layout : (y : Layout) (m : List ℕ) → Idle y m → y ≡ layoutOf m
     layout y m i = check-good m y (i .sound) .layout

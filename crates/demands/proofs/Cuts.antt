@@ -223,5 +223,6 @@ started-so y m e = subst (λ (z : Layout). Start answerOf z m (after m (powerSto
           enough = power-needs (layoutOf m) m g;
           words = other;
           settled = power-settles (layoutOf m) m g;
+          sound = good-check (layoutOf m) n whole;
           sum = first ∙ sym (crc-same (layoutOf m) n (whole .header) n (after m (pending (layoutOf m) m)) (good-sane (layoutOf m) n whole .words) (λ i l d. other i l d));
         }

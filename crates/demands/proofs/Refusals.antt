@@ -132,9 +132,9 @@ module _ (y : Layout) (a : Air) (st : State) (r : Register) (idle : Idle y (a .i
       (c .0, (c .1, (c .2, (ap not (eq-eqb (countIn (layoutOf (a .image)) (a .image)) 0 z), (refl, h)))))
 
   -- the rows from 7 on: 7, 8, 9, 12, and 10
-  row-7 : heardOf (a .frame) (a .bits) ≡ heard.refused 7 → hears answerOf a (on st false r) ≡ stays 7 a (on st false r)
+  row-7 : (k : ℕ) → heardOf (a .frame) (a .bits) ≡ heard.refused k → hears answerOf a (on st false r) ≡ stays 7 a (on st false r)
   unfolding frameOf handed last
-  row-7 h = first-at 5 (rows handed) (last handed) (ready 0 (drop 5 (rows handed)) (ap malformed h))
+  row-7 k h = first-at 5 (rows handed) (last handed) (ready 0 (drop 5 (rows handed)) (ap malformed h))
 
   row-8 : (x : Message) → heardOf (a .frame) (a .bits) ≡ x → malformed x ≡ false → checksumWrong (a .frame) (a .bits) x ≡ true
       → hears answerOf a (on st false r) ≡ stays 8 a (on st false r)

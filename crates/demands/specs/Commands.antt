@@ -41,7 +41,8 @@ use Rattle.states.specs.Commands.{accessWord, killWord}
 use Rattle.tag.specs.Power.{poweredTo}
 use Rattle.tag.specs.Table.{answered}
 use Rattle.tag.specs.Port.{numberIn}
-use Rattle.demands.specs.Facts.{Readable, Writable, Lockable, Masked, PermaLockable, PortWrites, Tells, marked}
+use Rattle.demands.specs.Terms.{Terms}
+use Rattle.demands.specs.Facts.{Readable, Writable, Lockable, PermaLockable, PortWrites, Tells, marked}
 use Rattle.demands.specs.Calls.{powerUp, frame, Program, asked, Idle}
 use Rattle.demands.specs.Calls as call
 
@@ -182,14 +183,15 @@ pub record Start (A : Program) (y : Layout) (m n : List ℕ) : Type 0 where
   pub up : (s : ℕ) → length (powerStores y m) ≤ s
       → asked A offSession m (powerUp s) ≡ poweredTo 0 (on (cond (eqb (killedWord y n) 0) state.Arbitrate state.Killed) false clear) (length (powerStores y m)) n
   pub enough : length (powerStores y m) ≤ 257
-  -- the pending words are stored and nothing is pending; EPC word 0 is the CRC-16 over the PC and the L words after it
+  -- the pending words are stored, nothing is pending and the image is good; EPC word 0 is the CRC-16 over the PC and the L words after it
   pub words : (i : ℕ) → i < y .work .at → (i ≡ y .epc .at → ⊥) → wordAt n i ≡ wordAt (after m (pending y m)) i
   pub settled : countIn y n ≡ 0
+  pub sound : checkOf n ≡ good y
   pub sum : wordAt n (y .epc .at) ≡ crcOf (wordsBits n (y .epc .at + 1) (lengthOf (pcWord y n) + 1))
 
 pub record Demand2 (A : Program) : Type 0 where
+  pub terms : Terms
   pub start : (y : Layout) (m : List ℕ) → checkOf m ≡ good y → Start A y m (after m (powerStores y m))
   pub radio : (y : Layout) (a : Air) (r : Register) → Idle y (a .image) → Radio A y a r
-  pub locked : (old mask action : ℕ) → Masked old mask action (lockedTo old mask action)
   pub calls : (m : List ℕ) (st : State) (r : Register) → Calls A m st r
   pub engine : (y : Layout) (m : List ℕ) (st : State) (r : Register) → Idle y m → Engine A y m st r

@@ -105,7 +105,7 @@ pub record Unready (A : Program) (a : Air) : Type 0 where
 
 -- 7 and 8: a frame that is none, or has a wrong CRC-16
 pub record Unheard (A : Program) (a : Air) (st : State) (r : Register) : Type 0 where
-  pub malformed : heardOf (a .frame) (a .bits) ≡ heard.refused 7 → hears A a (on st false r) ≡ stays 7 a (on st false r)
+  pub malformed : (k : ℕ) → heardOf (a .frame) (a .bits) ≡ heard.refused k → hears A a (on st false r) ≡ stays 7 a (on st false r)
   pub checksum : (c : Command) → heardOf (a .frame) (a .bits) ≡ heard.said c → checksumRight (a .frame) (a .bits) ≡ false
       → hears A a (on st false r) ≡ stays 8 a (on st false r)
 
@@ -216,8 +216,8 @@ pub record Port (A : Program) (y : Layout) (m : List ℕ) (st : State) (r : Regi
   pub write-count : (at n : ℕ) (d : List ℕ) (s : ℕ) → length d ≡ 2 * n → BadCount y at n ⊎ (pairsIn y < n)
       → asked A (on st true r) m (write at d s) ≡ leaves 13 (on st true r) m []
 
--- 4: a frame that is answered with a reply, 0 or 10, in another room and with another power, in a room that the reply doesn't fit; 11: a frame or an SPI write
--- that is done with `enough`, and a power-up, with power for fewer stores than it makes
+-- 4: in another room and with another power the frame would get a reply, 0 or 10; here the reply doesn't fit.
+-- 11: with power `enough` the call is done; here the power is less than its stores
 abbrev pub given : List ℕ → ℕ → Air → Air
 given room power a = record { image = a .image; frame = a .frame; bits = a .bits; fresh = a .fresh; room = room; power = power }
 

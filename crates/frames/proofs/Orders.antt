@@ -70,6 +70,3 @@ heard-small m n =
 
 pub said-small : (m : List ℕ) (n : ℕ) (c : Command) → heardOf m n ≡ heard.said c → Small (c .order)
 said-small m n c e = rw e at (heard-small m n)
-
-pub refused-7 : (m : List ℕ) (n k : ℕ) → heardOf m n ≡ heard.refused k → k ≡ 7
-refused-7 m n k e = rw e at (heard-small m n)

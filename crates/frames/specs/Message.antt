@@ -15,9 +15,3 @@ abbrev pub meaning : Heard → Message
 meaning answer.Malformed = refused 7
 meaning answer.Nak = nak
 meaning (answer.Said c) = said c
-
--- the number in the answer table, of a frame that has one by itself
-abbrev pub rowOf : Message → ℕ
-rowOf (refused n) = n
-rowOf nak = 0
-rowOf (said c) = 0

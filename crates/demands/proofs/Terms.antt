@@ -1,0 +1,108 @@
+-- The terms of the demands come to what the rules say. Assumes nothing.
+use Prim.Native.Nat.{ℕ, zero, suc, _+_, _-_, _*_, _/_, _≤_, _<_}
+use mathlib.Core.Path.{_≡_, refl, sym, ap, ap₂, _∙_}
+use mathlib.Core.Bool.{Bool, true, false, cond}
+use mathlib.Core.List.{List, [], _∷_, _++_}
+use native.Mathlib.Omega.{arith}
+use native.Mathlib.Nat.{le-div-iff-mul-le}
+use borrow.Author.Tests.{eqb-true, eq-eqb}
+use Rattle.bits.specs.Words.{wordAt, Store, store, after}
+use Rattle.bits.specs.Bits.{fieldAt, bitsFrom}
+use Rattle.bits.specs.Below.{below}
+use Rattle.crc.specs.Crc.{crcOf}
+use Rattle.image.specs.declared.Layout.{Layout}
+use Rattle.image.specs.Layout.{blocksIn}
+use Rattle.image.specs.Content.{countIn, pairAt, pending}
+use Rattle.frames.specs.Frames.{checksumRight}
+use Rattle.replies.specs.Replies.{checked}
+use Rattle.replies.specs.Pack.{filled, packed}
+use Rattle.replies.proofs.Laws.{packed-none}
+use Rattle.stores.specs.Stores.{finished, changeStores, epcCrc, powerStores}
+use Rattle.tag.specs.declared.Register.{Register}
+use Rattle.tag.specs.Port.{numberIn}
+use Rattle.demands.specs.Terms.{Words, Bits, Terms}
+use Rattle.demands.proofs.Rights.{lock-masked}
+
+power-list : (y : Layout) (m : List ℕ) (ss : List Store) → pending y m ≡ ss
+    → powerStores y m ≡ finished (y .work .at) ss ++ (store (y .epc .at) (epcCrc y (after m (finished (y .work .at) ss))) ∷ [])
+unfolding powerStores
+power-list y m ss e = ap (λ (xs : List Store). finished (y .work .at) xs ++ (store (y .epc .at) (epcCrc y (after m (finished (y .work .at) xs))) ∷ [])) e
+
+pair : (y : Layout) (m : List ℕ) (j a b : ℕ) → y .work .at + 1 + 2 * j ≡ a → y .work .at + 1 + 2 * j + 1 ≡ b → pairAt y m j ≡ store (wordAt m a) (wordAt m b)
+pair y m j a b e f = ap₂ (λ (p q : ℕ). store (wordAt m p) (wordAt m q)) e f
+
+words-so : (y : Layout) (m : List ℕ) → Words y m
+words-so y m =
+    record {
+      lock = refl;
+      killed = refl;
+      kill = λ i. refl;
+      access = λ i. refl;
+      pc = refl;
+      perma = λ b. refl;
+      count = refl;
+      pairs = λ e.
+          let w = y .work .at in
+          ap (below (pairAt y m)) e
+          ∙ ap₂ (λ (p q : Store). p ∷ q ∷ []) (pair y m 0 (w + 1) (w + 2) (omega arith) (omega arith)) (pair y m 1 (w + 3) (w + 4) (omega arith) (omega arith));
+      settled = λ e. power-list y m [] (ap (below (pairAt y m)) e);
+      pends = λ s ss e. power-list y m (s ∷ ss) e;
+    }
+
+bits-so : (m : List ℕ) → Bits m
+unfolding checked filled packed
+bits-so m =
+    record {
+      silence = refl;
+      number = λ n. refl;
+      success = λ h. refl;
+      words = λ i k h. refl;
+      error = λ e h. refl;
+      none = packed-none;
+      byte = λ b c d e f g h i x bs room. ap (λ (v : ℕ). v ∷ packed bs room) (omega arith);
+      last = λ b x room. ap₂ _∷_ (omega arith) (packed-none room);
+    }
+
+blocks-so : (y : Layout) (b : ℕ) → 1 ≤ y .block → (b < blocksIn y → b * y .block < y .user .words) × (b * y .block < y .user .words → b < blocksIn y)
+unfolding blocksIn
+blocks-so y b least =
+    let k = y .block in
+    let x = y .user .words + (k - 1) in
+    let both = le-div-iff-mul-le {k = k} {x = b + 1} {y = x} (omega (arith, least)) in (
+      λ l. let q : (b + 1) * k ≤ x = both .0 (omega (arith, l)) in omega (arith, q, least),
+      λ l. let q : (b + 1) * k ≤ x = omega (arith, l, least) in let r : b + 1 ≤ x / k = both .1 q in omega (arith, r),
+    )
+
+register-so : (u k : Bool) → numberIn (record { unwritten = u; killed = k }) ≡ cond u 2 0 + cond k 1 0
+register-so true true = refl
+register-so true false = refl
+register-so false true = refl
+register-so false false = refl
+
+change-so : (w : ℕ) (a b : Store)
+    → changeStores w (a ∷ b ∷ []) ≡ store (w + 1) (a .at) ∷ store (w + 2) (a .value) ∷ store (w + 3) (b .at) ∷ store (w + 4) (b .value) ∷ store w 2 ∷ a ∷ b ∷ store w 0 ∷ []
+change-so w a b = ap (λ (p : ℕ). list p (w + 1 + 2) (w + 1 + 2 + 1)) (omega arith) ∙ ap (λ (p : ℕ). list (w + 2) p (w + 1 + 2 + 1)) (omega arith) ∙ ap (list (w + 2) (w + 3)) (omega arith)
+  where
+    list : ℕ → ℕ → ℕ → List Store
+    list p q r = store (w + 1) (a .at) ∷ store p (a .value) ∷ store q (b .at) ∷ store r (b .value) ∷ store w 2 ∷ a ∷ b ∷ store w 0 ∷ []
+
+checksum-so : (f : List ℕ) (n : ℕ) → let sum = crcOf (bitsFrom f 0 (n - 16)) in
+    (checksumRight f n ≡ true → fieldAt f (n - 16) 16 ≡ sum) × (fieldAt f (n - 16) 16 ≡ sum → checksumRight f n ≡ true)
+unfolding checksumRight
+checksum-so f n = (eqb-true _ _, eq-eqb _ _)
+
+pub terms-so : Terms
+terms-so =
+    record {
+      words = words-so;
+      bits = bits-so;
+      checksum = checksum-so;
+      banks = λ y. (refl, refl, refl, refl);
+      blocks = blocks-so;
+      work = λ y w e. omega (arith, e);
+      length = λ pc. refl;
+      pairs = λ lock k. (refl, refl);
+      locked = lock-masked;
+      change = change-so;
+      register = λ r. register-so (r .unwritten) (r .killed);
+    }

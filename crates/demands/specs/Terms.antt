@@ -1,0 +1,76 @@
+-- What the terms of the demands come to where a definition stands behind them (RULES 1 to 4): each said once more from the rules, so that a definition which became another breaks a demand.
+-- Assumes nothing.
+use Prim.Native.Nat.{ℕ, _+_, _-_, _*_, _/_, _%_, _^_, _≤_, _<_}
+use mathlib.Core.Path.{_≡_}
+use mathlib.Core.Bool.{true, cond}
+use mathlib.Core.List.{List, [], _∷_, _++_}
+use Rattle.bits.specs.Words.{wordAt, Store, store, after}
+use Rattle.bits.specs.Bits.{bitsOf, fieldAt, bitsFrom, wordsBits}
+use Rattle.crc.specs.Crc.{crcOf}
+use Rattle.image.specs.declared.Layout.{Layout}
+use Rattle.image.specs.Layout.{blocksIn, pairsIn}
+use Rattle.image.specs.Content.{lockWord, killedWord, lengthOf, pcWord, permalock, countIn, pending}
+use Rattle.frames.specs.Frames.{checksumRight}
+use Rattle.replies.specs.declared.Reply.the-variants as reply
+use Rattle.replies.specs.Replies.{replyBits}
+use Rattle.replies.specs.Pack.{packed}
+use Rattle.rights.specs.Rights.{bankOf, pwdBit, permaBit, lockedTo}
+use Rattle.states.specs.Commands.{killWord, accessWord}
+use Rattle.stores.specs.Stores.{changeStores, epcCrc, powerStores}
+use Rattle.tag.specs.declared.Register.{Register}
+use Rattle.tag.specs.Port.{numberIn}
+use Rattle.demands.specs.Facts.{bitIn, Masked}
+
+-- bits with the CRC-16 over all of them behind them
+abbrev pub sealed : List ℕ → List ℕ
+sealed bs = bs ++ bitsOf 16 (crcOf bs)
+
+-- the image m of the layout y
+pub record Words (y : Layout) (m : List ℕ) : Type 0 where
+  -- STATUS is the lock word and the killed word; RESERVED begins with the kill password and the access password, upper half first
+  pub lock : lockWord y m ≡ wordAt m (y .status .at)
+  pub killed : killedWord y m ≡ wordAt m (y .status .at + 1)
+  pub kill : (i : ℕ) → killWord y m i ≡ wordAt m (y .reserved .at + i)
+  pub access : (i : ℕ) → accessWord y m i ≡ wordAt m (y .reserved .at + 2 + i)
+  pub pc : pcWord y m ≡ wordAt m (y .epc .at + 1)
+  -- PERMA has a bit for each block, the first highest; WORK is the count and the pairs, offset before value
+  pub perma : (b : ℕ) → permalock y m b ≡ bitIn (wordAt m (y .perma .at + b / 16)) (15 - b % 16)
+  pub count : countIn y m ≡ wordAt m (y .work .at)
+  pub pairs : countIn y m ≡ 2
+      → let w = y .work .at in pending y m ≡ store (wordAt m (w + 1)) (wordAt m (w + 2)) ∷ store (wordAt m (w + 3)) (wordAt m (w + 4)) ∷ []
+  -- power-up: nothing pending, then only the CRC-16; else the pending words in order, the count 0, and the CRC-16
+  pub settled : countIn y m ≡ 0 → powerStores y m ≡ store (y .epc .at) (crcOf (wordsBits m (y .epc .at + 1) (lengthOf (pcWord y m) + 1))) ∷ []
+  pub pends : (s : Store) (ss : List Store) → pending y m ≡ s ∷ ss
+      → let settling = (s ∷ ss) ++ (store (y .work .at) 0 ∷ []) in powerStores y m ≡ settling ++ (store (y .epc .at) (epcCrc y (after m settling)) ∷ [])
+
+-- a reply's bits, and bits in a room: eight to a byte, the first highest; the last byte filled with 0 bits, the bytes beyond as they were
+pub record Bits (m : List ℕ) : Type 0 where
+  pub silence : replyBits m reply.Silence ≡ []
+  pub number : (n : ℕ) → replyBits m (reply.Number n) ≡ sealed (bitsOf 16 n)
+  pub success : (h : ℕ) → replyBits m (reply.Success h) ≡ sealed (0 ∷ bitsOf 16 h)
+  pub words : (i k h : ℕ) → replyBits m (reply.Words i k h) ≡ sealed ((0 ∷ wordsBits m i k) ++ bitsOf 16 h)
+  pub error : (e h : ℕ) → replyBits m (reply.Error e h) ≡ sealed ((1 ∷ bitsOf 8 e) ++ bitsOf 16 h)
+  pub none : (room : List ℕ) → packed [] room ≡ room
+  pub byte : (b c d e f g h i x : ℕ) (bs room : List ℕ)
+      → packed (b ∷ c ∷ d ∷ e ∷ f ∷ g ∷ h ∷ i ∷ bs) (x ∷ room) ≡ (128 * b + 64 * c + 32 * d + 16 * e + 8 * f + 4 * g + 2 * h + i) ∷ packed bs room
+  pub last : (b x : ℕ) (room : List ℕ) → packed (b ∷ []) (x ∷ room) ≡ 128 * b ∷ room
+
+pub record Terms : Type 0 where
+  pub words : (y : Layout) (m : List ℕ) → Words y m
+  pub bits : (m : List ℕ) → Bits m
+  -- a frame's last 16 bits are the CRC-16 of those before them
+  pub checksum : (f : List ℕ) (n : ℕ) → let sum = crcOf (bitsFrom f 0 (n - 16)) in
+      (checksumRight f n ≡ true → fieldAt f (n - 16) 16 ≡ sum) × (fieldAt f (n - 16) 16 ≡ sum → checksumRight f n ≡ true)
+  pub banks : (y : Layout) → (bankOf y 0 ≡ y .reserved) × (bankOf y 1 ≡ y .epc) × (bankOf y 2 ≡ y .tid) × (bankOf y 3 ≡ y .user)
+  -- a block exists where a word of USER begins it, short as it may be
+  pub blocks : (y : Layout) (b : ℕ) → 1 ≤ y .block → (b < blocksIn y → b * y .block < y .user .words) × (b * y .block < y .user .words → b < blocksIn y)
+  pub work : (y : Layout) (w : ℕ) → y .work .words ≡ 1 + 2 * w → pairsIn y ≡ w
+  pub length : (pc : ℕ) → lengthOf pc ≡ pc / 2048
+  -- pair k of the lock word, pwd before permalock, from the top of its ten bits; and the lock word after a Lock
+  pub pairs : (lock k : ℕ) → (pwdBit lock k ≡ bitIn lock (9 - 2 * k)) × (permaBit lock k ≡ bitIn lock (8 - 2 * k))
+  pub locked : (old mask action : ℕ) → Masked old mask action (lockedTo old mask action)
+  -- a change of two words: the pairs, the count, the words, the count 0
+  pub change : (w : ℕ) (a b : Store)
+      → changeStores w (a ∷ b ∷ [])
+      ≡ store (w + 1) (a .at) ∷ store (w + 2) (a .value) ∷ store (w + 3) (b .at) ∷ store (w + 4) (b .value) ∷ store w 2 ∷ a ∷ b ∷ store w 0 ∷ []
+  pub register : (r : Register) → numberIn r ≡ cond (r .unwritten) 2 0 + cond (r .killed) 1 0
