@@ -2,7 +2,7 @@
 use Prim.Native.Nat.{ℕ, zero, suc, _+_, _/_, _%_, _^_, _≤_, _<_}
 use mathlib.Core.Path.{_≡_, refl, sym, ap, ap₂, _∙_}
 use mathlib.Core.Logic.{_≢_, _⊎_, inl, inr, ⊎-elim}
-use mathlib.Core.Bool.{true≢false, false≢true, Bool, true, false, cond, not, _&&_, _||_}
+use mathlib.Core.Bool.{false≢true, Bool, true, false, cond, not, _&&_, _||_}
 use mathlib.Core.List.{List, [], _∷_, _++_}
 use native.Mathlib.Omega.{arith}
 use native.Mathlib.Nat.{mod-lt}
@@ -17,7 +17,7 @@ use Rattle.image.specs.declared.Layout.{Layout}
 use Rattle.image.specs.Content.{lockWord, permalock}
 use Rattle.rights.specs.Rights.{pwdBit, permaBit, opens, pairOf, mayRead, blockOpen, mayWrite, lockedTo}
 use Rattle.states.specs.Commands.{accessWord, zeroAccess}
-use Rattle.tag.specs.Port.{portOpen, portWrites, writtenWords, someUnwritten}
+use Rattle.tag.specs.Port.{portOpen, portWrites, writtenWords}
 use Rattle.demands.specs.Facts.{Opens, MayRead, MayWrite, bitIn, Masked, PortWrites, Tells, marked}
 
 opens-if : (q : Bool) (lock k : ℕ) → Opens q lock k → opens q lock k ≡ true

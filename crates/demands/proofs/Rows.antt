@@ -30,7 +30,7 @@ use Rattle.tag.specs.Result.{Result, gives}
 use Rattle.states.specs.Commands.{isKilled, linkOf}
 use Rattle.plans.specs.Effects.{Effect}
 use Rattle.tag.specs.Session.{offSession}
-use Rattle.tag.specs.Table.{Input, input, isOff, liveOf, malformed, broken, comes, effect, replyOr, isError, replyOf, fits, storesOf, replied, cut, rows, frameOf}
+use Rattle.tag.specs.Table.{Input, input, isOff, liveOf, broken, comes, effect, replyOr, isError, replyOf, fits, storesOf, replied, cut, rows, frameOf}
 use Rattle.tag.specs.Port.{badCount, badData, portWords, refusals, registerTo, withKilled, withUnwritten, someUnwritten, writeOf}
 use Rattle.tag.proofs.Plans.{none-or}
 use Rattle.demands.specs.Calls.{Tag, answerOf, wordsIn}

@@ -1,31 +1,25 @@
 -- When the room is too small or the power too short: the same frame in two rooms comes to the same row but for the reply that doesn't fit. Assumes nothing.
-use Prim.Native.Nat.{ℕ, _+_, _*_, _/_, _≤_, _<_}
-use mathlib.Core.Path.{_≡_, refl, sym, ap, ap₂, _∙_, subst}
+use Prim.Native.Nat.{ℕ, _*_, _<_}
+use mathlib.Core.Path.{_≡_, refl, sym, ap, _∙_, subst}
 use mathlib.Core.Logic.{_⊎_, inl, inr}
 use mathlib.Core.Bool.{Bool, true, false, cond, not, _&&_}
 use mathlib.Core.List.{List, []}
 use native.Mathlib.Omega.{arith}
-use native.Mathlib.Decide.{decLt}
 use lib.Dec.{ltb}
 use lib.ListN.{length, take, drop}
-use borrow.Author.Tests.{lt-ltb, le-ltb}
-use Rattle.bits.specs.Words.{Store}
+use borrow.Author.Tests.{lt-ltb}
 use Rattle.bits.specs.First.{first}
 use Rattle.image.specs.declared.Layout.{Layout}
-use Rattle.image.specs.Layout.{layoutOf}
 use Rattle.image.specs.Check.{checkOf, good}
-use Rattle.image.specs.Rules.{Good}
 use Rattle.image.proofs.Answers.{check-good}
 use Rattle.frames.specs.Message.{Message}
 use Rattle.frames.specs.Frames.{heardOf}
 use Rattle.replies.specs.declared.Reply.{Reply}
 use Rattle.replies.specs.Replies.{replyLength, replyBytes}
-use Rattle.stores.specs.Stores.{changeStores, powerStores}
 use Rattle.states.specs.Commands.{linkOf, used}
 use Rattle.plans.specs.Effects.{Effect}
 use Rattle.tag.specs.declared.Session.{Session}
 use Rattle.tag.specs.Result.{Result}
-use Rattle.tag.specs.Power.{powerUpOf}
 use Rattle.tag.specs.Table.{Input, input, liveOf, broken, comes, effect, isError, replyOr, replyOf, fits, storesOf, everything, cut, replied, rows, frameOf}
 use Rattle.demands.specs.Calls.{Tag, answerOf}
 use Rattle.demands.specs.Demands.{Storing, lasting}

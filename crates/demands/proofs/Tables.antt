@@ -1,9 +1,9 @@
 -- Demand 1: each promise allows one outcome, and each answer leaves what the table says. Assumes nothing.
-use Prim.Native.Nat.{ℕ, _*_, _/_, _≤_, _<_}
+use Prim.Native.Nat.{ℕ, _≤_, _<_}
 use mathlib.Core.Path.{_≡_, refl, sym, ap, subst, _∙_}
 use mathlib.Core.Logic.{inl, inr, ⊎-elim}
-use mathlib.Core.Bool.{false≢true, Bool, true, false, cond, not, _&&_, _||_}
-use mathlib.Core.List.{List, [], _∷_, _++_}
+use mathlib.Core.Bool.{false≢true, Bool, true, false, cond, _&&_}
+use mathlib.Core.List.{List, [], _∷_}
 use native.Mathlib.Omega.{arith}
 use lib.Dec.{eqb, leb, ltb, lit≤}
 use lib.ListN.{length, take}
@@ -19,7 +19,7 @@ use Rattle.image.proofs.Rules.{header-both}
 use Rattle.image.proofs.Answers.{check-good, good-check}
 use Rattle.image.specs.declared.Fit.{Fit}
 use Rattle.image.specs.declared.Fit.the-variants as fit
-use Rattle.image.specs.Check.{checkOf, Checked, refused, good, meaning, imageRows}
+use Rattle.image.specs.Check.{checkOf, Checked, refused, good, meaning}
 use Rattle.frames.specs.Message.{Message}
 use Rattle.frames.specs.Message as heard
 use Rattle.frames.specs.Frames.{heardOf}
@@ -30,13 +30,12 @@ use Rattle.replies.specs.Pack.{packed}
 use Rattle.replies.proofs.Laws.{packed-none}
 use Rattle.rights.specs.declared.Code.{Code}
 use Rattle.rights.specs.declared.Code.the-variants as code
-use Rattle.stores.specs.Stores.{changeStores, powerStores}
 use Rattle.states.specs.declared.State.the-variants as state
 use Rattle.tag.specs.declared.Session.{Session}
-use Rattle.tag.specs.Session.{offSession, newSession}
-use Rattle.tag.specs.Result.{Result, leaves, gives}
+use Rattle.tag.specs.Session.{offSession}
+use Rattle.tag.specs.Result.{Result, leaves}
 use Rattle.tag.specs.One.{one-outcome}
-use Rattle.states.specs.Commands.{linkOf, isKilled, used, isArbitrate, isLinked}
+use Rattle.states.specs.Commands.{linkOf, isKilled, used}
 use Rattle.tag.specs.Power.{powerRows, powered, powerUpOf}
 use Rattle.tag.specs.Table.{Input, input, scene, comes, stateOf, liveOf, isError, effect, replyOr, replyOf, fits, dropped, replied, rows, obeyed, frameOf, admitRows, admitted, admitOf}
 use Rattle.tag.specs.Port.{askRows, granted, askOf, holderRows, released, releaseOf, told, registerOf, readBits, readRows, shown, readOf, writeRows, written, writeOf}

@@ -1,6 +1,6 @@
 -- The terms of the demands come to what the rules say. Assumes nothing.
-use Prim.Native.Nat.{ℕ, zero, suc, _+_, _-_, _*_, _/_, _≤_, _<_}
-use mathlib.Core.Path.{_≡_, refl, sym, ap, ap₂, _∙_}
+use Prim.Native.Nat.{ℕ, _+_, _-_, _*_, _/_, _≤_, _<_}
+use mathlib.Core.Path.{_≡_, refl, ap, ap₂, _∙_}
 use mathlib.Core.Bool.{Bool, true, false, cond}
 use mathlib.Core.List.{List, [], _∷_, _++_}
 use native.Mathlib.Omega.{arith}
@@ -12,13 +12,12 @@ use Rattle.bits.specs.Below.{below}
 use Rattle.crc.specs.Crc.{crcOf}
 use Rattle.image.specs.declared.Layout.{Layout}
 use Rattle.image.specs.Layout.{blocksIn}
-use Rattle.image.specs.Content.{countIn, pairAt, pending}
+use Rattle.image.specs.Content.{pairAt, pending}
 use Rattle.frames.specs.Frames.{checksumRight}
 use Rattle.replies.specs.Replies.{checked}
 use Rattle.replies.specs.Pack.{filled, packed}
 use Rattle.replies.proofs.Laws.{packed-none}
 use Rattle.stores.specs.Stores.{finished, changeStores, epcCrc, powerStores}
-use Rattle.tag.specs.declared.Register.{Register}
 use Rattle.tag.specs.Port.{numberIn}
 use Rattle.demands.specs.Terms.{Words, Bits, Terms}
 use Rattle.demands.proofs.Rights.{lock-masked}

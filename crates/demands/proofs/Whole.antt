@@ -1,5 +1,5 @@
 -- The buyer's own words, of stores that are whole words, from the demands on torn ones: a byte behind the image's end is no byte of it. Assumes nothing.
-use Prim.Native.Nat.{ℕ, suc, _+_, _*_, _≤_, _<_, min}
+use Prim.Native.Nat.{ℕ, suc, _+_, _*_}
 use mathlib.Core.Path.{_≡_, refl, sym, ap, _∙_, subst}
 use mathlib.Core.Logic.{_⊎_, inl, inr}
 use mathlib.Core.Bool.{Bool, cond}
@@ -9,7 +9,7 @@ use native.Mathlib.Omega.{arith}
 use lib.ListN.{length, getD, take}
 use lib.Seq.{set-out}
 use borrow.Author.Tests.{ne-eqb}
-use Rattle.bits.specs.Words.{Store, after}
+use Rattle.bits.specs.Words.{Store}
 use Rattle.bits.proofs.Stores.{length-after}
 use Rattle.image.specs.declared.Layout.{Layout}
 use Rattle.image.specs.Rules.{Good}
@@ -17,10 +17,9 @@ use Rattle.image.proofs.Answers.{check-good}
 use Rattle.stores.specs.Stores.{changeStores}
 use Rattle.stores.specs.Cuts.{Cut, withByte, reaches}
 use Rattle.tag.specs.declared.Session.{Session}
-use Rattle.tag.specs.Session.{offSession}
 use Rattle.tag.specs.Power.{powerUpOf}
 use Rattle.demands.specs.Calls.{Call, Tag, answerOf, imageAfter, more, torn, Turn, run}
-use Rattle.demands.specs.Demands.{Storing, lasting, Stores, powerUps, wholePowerUps, Unbroken, Demand3, WholeWords, Kept, AnyRun, wholeRun, WholeRuns}
+use Rattle.demands.specs.Demands.{Storing, lasting, powerUps, wholePowerUps, Unbroken, Demand3, WholeWords, Kept, AnyRun, wholeRun, WholeRuns}
 use Rattle.demands.proofs.Rows.{Refused, Acting, wordsOf, acts, words-lasting}
 use Rattle.demands.proofs.Cuts.{torn-lasting, needs, demand-3}
 use Rattle.demands.proofs.Runs.{any-run}

@@ -1,7 +1,7 @@
 -- Every answer of every operation on the worked image and images beside it, computed (RULES 6.5). Assumes nothing.
 use Prim.Native.Nat.{ℕ}
 use mathlib.Core.Path.{_≡_, refl}
-use mathlib.Core.Bool.{true, false}
+use mathlib.Core.Bool.{false}
 use mathlib.Core.List.{List, [], _∷_}
 use lib.ListN.{take, replicate}
 use Rattle.bits.specs.Words.{wordAt, withWord}
@@ -25,7 +25,7 @@ use Rattle.tag.specs.Session.{offSession, newSession}
 use Rattle.tag.specs.Power.{powerUpOf}
 use Rattle.tag.specs.Table.{frameOf, admitOf}
 use Rattle.tag.specs.Port.{askOf, releaseOf, registerOf, readOf, writeOf}
-use Rattle.demands.specs.Calls.{Call, powerUp, admit, frame, ask, release, register, read, write, Tag, answerOf}
+use Rattle.demands.specs.Calls.{Call, powerUp, admit, frame, ask, release, register, read, write, answerOf}
 use Rattle.demands.specs.Cases.{Case, p, Hold}
 use Rattle.demands.specs.Worked.{write3, write16, secured}
 use Rattle.demands.specs.Ports.{holding, fourWords}

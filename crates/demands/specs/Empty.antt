@@ -17,7 +17,7 @@ use Rattle.image.specs.Worked.{worked, workedLayout}
 use Rattle.frames.specs.Frames.{heardOf, checksumRight}
 use Rattle.replies.specs.Pack.{filled, packed}
 use Rattle.replies.specs.Replies.{checked}
-use Rattle.rights.specs.Rights.{readCode, writeCode}
+use Rattle.rights.specs.Rights.{writeCode}
 use Rattle.stores.specs.Stores.{powerStores}
 use Rattle.stores.specs.Cuts.{Cut}
 use Rattle.stores.specs.Worked.{worked-bytes}
@@ -31,10 +31,10 @@ use Rattle.tag.specs.Session.{offSession, on, clear}
 use Rattle.tag.specs.Result.{Result}
 use Rattle.tag.specs.Power.{powerUpOf}
 use Rattle.tag.specs.Table.{Input, input, everything, effect, storesOf, frameOf}
-use Rattle.demands.specs.Calls.{Call, powerUp, admit, frame, ask, release, register, read, write, Tag, Program, answerOf, torn}
+use Rattle.demands.specs.Calls.{powerUp, admit, frame, ask, release, register, read, write, Program, answerOf, torn}
 use Rattle.demands.specs.Demands.{Demand1, Demand3, Stores, lasting}
 use Rattle.demands.specs.Commands.{Demand2, hears, link, done}
-use Rattle.demands.specs.Worked.{write3, readTwo, secured, sent-cases}
+use Rattle.demands.specs.Worked.{write3, readTwo}
 use Rattle.demands.specs.Torn.{tag, p7}
 use Rattle.demands.specs.Met.{air, met}
 

@@ -36,7 +36,7 @@ use Rattle.tag.specs.declared.Session.{Session}
 use Rattle.tag.specs.Session.{on, clear}
 use Rattle.states.specs.Commands.{linkOf, withLink, isCovered}
 use Rattle.tag.specs.Result.{Result}
-use Rattle.tag.specs.Table.{Input, input, liveOf, movedTo, effect, storesOf, replied, rows, frameOf}
+use Rattle.tag.specs.Table.{input, liveOf, movedTo, effect, storesOf, replied, rows, frameOf}
 use Rattle.tag.specs.Port.{bitOf}
 use Rattle.demands.specs.Calls.{Program}
 use Rattle.demands.specs.Commands.{Demand2, hears, link}

@@ -12,7 +12,6 @@ use Rattle.image.specs.declared.Layout.{Layout}
 use Rattle.image.specs.Layout.{blocksIn, pairsIn}
 use Rattle.image.specs.Content.{lockWord, lengthOf, permalock, countIn}
 use Rattle.image.specs.Check.{checkOf, refused, good}
-use Rattle.frames.specs.declared.Span.{Span}
 use Rattle.frames.specs.declared.Order.{Order}
 use Rattle.frames.specs.declared.Order.the-variants as order
 use Rattle.frames.specs.declared.Command.{Command}

@@ -5,7 +5,7 @@ use mathlib.Core.Bool.{cond}
 use mathlib.Core.List.{List, [], _∷_}
 use native.Mathlib.Omega.{arith}
 use lib.Dec.{eqb, lit<, lit≤}
-use lib.ListN.{length, replicate}
+use lib.ListN.{replicate}
 use Rattle.bits.specs.Words.{wordAt, withWord}
 use Rattle.bits.specs.Bits.{fieldAt, bitsOf, wordsBits}
 use Rattle.crc.specs.Crc.{crcOf}
