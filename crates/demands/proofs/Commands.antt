@@ -46,7 +46,7 @@ use Rattle.demands.proofs.Rights.{marked-words, marked-every}
 use Rattle.demands.proofs.Terms.{terms-so}
 use Rattle.tag.specs.Port.{badCount, badData, refusals, withKilled, withUnwritten, someUnwritten, writtenWords, readBits, portWords, askOf, releaseOf, registerOf, readOf, writeOf}
 use Rattle.demands.specs.Calls.{answerOf, Idle}
-use Rattle.demands.specs.Commands.{Air, hears, linked, link, done, Does, Radio, Calls, Engine, Demand2}
+use Rattle.demands.specs.Commands.{Air, hears, linked, link, done, Does, Radio, NoImage, Transfers, Demand2}
 use Rattle.demands.proofs.Rows.{Rows, None, none-first}
 use Rattle.demands.proofs.Cuts.{started-so}
 use Rattle.demands.proofs.Codes.{and-false, read-clear, write-clear, lock-clear, perma-read-clear, perma-clear}
@@ -171,7 +171,7 @@ module _ (a : Air) (r : Register) (idle : Idle (layoutOf (a .image)) (a .image))
 
   -- it comes to its effect
   Comes : ℕ → Order → State → Type 0
-  Comes n o st = Does answerOf (layoutOf (a .image)) a r n o st (at st o .state) (at st o .reply) (at st o .words)
+  Comes n o st = Does answerOf (layoutOf (a .image)) a r n o st (record { state = at st o .state; reply = at st o .reply; words = at st o .words })
 
   order-done : (st : State) (n : ℕ) (o : Order) → wrongCommand st (record { number = n; order = o }) ≡ false
       → breaks (layoutOf (a .image)) (a .image) (linkOf st) (linkOf st .half) (asksOf o .part) ≡ false → at st o .code ≡ code.Nothing → Comes n o st
@@ -236,10 +236,10 @@ module _ (a : Air) (r : Register) (idle : Idle (layoutOf (a .image)) (a .image))
         ];
         read = elim [
           | true ↦ λ h c b p n k e d.
-              subst (λ (z : ℕ). Does answerOf (layoutOf (a .image)) a r h (order.Read (span b p n)) (state.Secured (link h c half.Nothing)) (state.Secured (link h cover.Nothing half.Nothing)) (reply.Words (bankOf (layoutOf (a .image)) b .at + p) z h) []) (words-read b p n k d)
+              subst (λ (z : ℕ). Does answerOf (layoutOf (a .image)) a r h (order.Read (span b p n)) (state.Secured (link h c half.Nothing)) (record { state = state.Secured (link h cover.Nothing half.Nothing); reply = reply.Words (bankOf (layoutOf (a .image)) b .at + p) z h; words = [] })) (words-read b p n k d)
               (secured-done (link h c half.Nothing) (order.Read (span b p n)) refl refl refl (read-clear (layoutOf (a .image)) (a .image) true b p n e))
           | false ↦ λ h c b p n k e d.
-              subst (λ (z : ℕ). Does answerOf (layoutOf (a .image)) a r h (order.Read (span b p n)) (state.Open (link h c half.Nothing)) (state.Open (link h cover.Nothing half.Nothing)) (reply.Words (bankOf (layoutOf (a .image)) b .at + p) z h) []) (words-read b p n k d)
+              subst (λ (z : ℕ). Does answerOf (layoutOf (a .image)) a r h (order.Read (span b p n)) (state.Open (link h c half.Nothing)) (record { state = state.Open (link h cover.Nothing half.Nothing); reply = reply.Words (bankOf (layoutOf (a .image)) b .at + p) z h; words = [] })) (words-read b p n k d)
               (open-done (link h c half.Nothing) (order.Read (span b p n)) refl refl refl refl (read-clear (layoutOf (a .image)) (a .image) false b p n e))
         ];
         write = elim [
@@ -323,7 +323,7 @@ module _ (m : List ℕ) (st : State) (r : Register) (idle : Idle (layoutOf m) m)
         ∙ ap₂ (λ (t : Bool) (x : List Store). gives 0 (on st true (cond t (withKilled r) (withUnwritten (someUnwritten y m at (length d / 2)) r))) 0 (length (changeStores (y .work .at) x)) (after m (changeStores (y .work .at) x)) []) e words
         ∙ ap (λ (x : ℕ). gives 0 (on st true (cond k (withKilled r) (withUnwritten (someUnwritten y m at x) r))) 0 (length (changeStores (y .work .at) ws)) (after m (changeStores (y .work .at) ws)) []) half
 
-  engine : Engine answerOf (layoutOf m) m st r
+  engine : Transfers answerOf (layoutOf m) m st r
   unfolding written
   engine =
       record {
@@ -339,7 +339,7 @@ module _ (m : List ℕ) (st : State) (r : Register) (idle : Idle (layoutOf m) m)
         write-killed = λ at d n s k size a b c few. engine-write at d n s size a b c few true [] (ap isKilled k) refl (omega arith);
       }
 
-calls-so : (m : List ℕ) (st : State) (r : Register) → Calls answerOf m st r
+calls-so : (m : List ℕ) (st : State) (r : Register) → NoImage answerOf m st r
 unfolding admitOf askOf releaseOf registerOf
 calls-so m st r = record { admit = λ n. refl; ask = λ d. rw (not-linked st d); release = refl; register = refl }
 
@@ -354,5 +354,5 @@ demand-2 = record { terms = terms-so; start = started-so; radio = radio-at; call
         let e = layout y (a .image) i in
         subst (λ (z : Layout). Radio answerOf z a r) (sym e) (radio a r (subst (λ (z : Layout). Idle z (a .image)) e i))
 
-    engine-at : (y : Layout) (m : List ℕ) (st : State) (r : Register) → Idle y m → Engine answerOf y m st r
-    engine-at y m st r i = let e = layout y m i in subst (λ (z : Layout). Engine answerOf z m st r) (sym e) (engine m st r (subst (λ (z : Layout). Idle z m) e i))
+    engine-at : (y : Layout) (m : List ℕ) (st : State) (r : Register) → Idle y m → Transfers answerOf y m st r
+    engine-at y m st r i = let e = layout y m i in subst (λ (z : Layout). Transfers answerOf z m st r) (sym e) (engine m st r (subst (λ (z : Layout). Idle z m) e i))

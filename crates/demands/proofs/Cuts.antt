@@ -27,7 +27,7 @@ use Rattle.tag.specs.Result.{Result}
 use Rattle.tag.specs.Power.{poweredTo, firstIn, powerUpOf}
 use Rattle.demands.specs.Calls.{Tag, answerOf, wordsIn, torn}
 use Rattle.demands.specs.Commands.{Start}
-use Rattle.demands.specs.Demands.{Storing, byRadio, byPort, lasting, Stores, powerUps, Unbroken, Cuts, Demand3}
+use Rattle.demands.specs.Demands.{Storing, byRadio, byPort, lasting, Completes, powerUps, Unbroken, Survives, Demand3}
 use Rattle.demands.proofs.Plans.{plan-change}
 use Rattle.demands.proofs.Rows.{Refused, Acting, wordsOf, acts, words-lasting}
 use Rattle.demands.proofs.Rising.{rising}
@@ -106,7 +106,7 @@ pub torn-lasting : (t : Tag) (c : Storing) (k j : ℕ) → torn answerOf t (last
 torn-lasting t (byRadio f bits fresh room) k j = refl
 torn-lasting t (byPort at d) k j = refl
 
-module _ (y : Layout) (t : Tag) (c : Storing) (n enough : ℕ) (h : Stores answerOf y t c n enough) (ws : List Store) (own : wordsIn t (lasting c enough) ≡ ws) (a : Acting y t c ws) where
+module _ (y : Layout) (t : Tag) (c : Storing) (n enough : ℕ) (h : Completes answerOf y t c n enough) (ws : List Store) (own : wordsIn t (lasting c enough) ≡ ws) (a : Acting y t c ws) where
   g : Good y (t .image)
   g = check-good (t .image) y (h .idle .sound)
 
@@ -173,7 +173,7 @@ module _ (y : Layout) (t : Tag) (c : Storing) (n enough : ℕ) (h : Stores answe
         starts = λ u l. begins (left f fs) (left-good f fs) u l;
       }
 
-  all-cuts : Cuts answerOf y t c n enough
+  all-cuts : Survives answerOf y t c n enough
   all-cuts =
       record {
         stores = a .stores enough ∙ (let z = needs in omega (arith, whole, z));
@@ -186,7 +186,7 @@ module _ (y : Layout) (t : Tag) (c : Storing) (n enough : ℕ) (h : Stores answe
 pub demand-3 : Demand3 answerOf
 demand-3 y t c n enough h = go (acts y t c enough (check-good (t .image) y (h .idle .sound)))
   where
-    go : Refused (t .image) (answerOf t (lasting c enough)) ⊎ Acting y t c (wordsOf t c) → Cuts answerOf y t c n enough
+    go : Refused (t .image) (answerOf t (lasting c enough)) ⊎ Acting y t c (wordsOf t c) → Survives answerOf y t c n enough
     go (inl r) = absurd (omega (arith, h .done, r .1))
     go (inr a) = all-cuts y t c n enough h (wordsOf t c) (words-lasting t c enough) a
 

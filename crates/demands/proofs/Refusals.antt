@@ -59,7 +59,7 @@ use Rattle.demands.proofs.Rows.{Rows, Reaches, rowAt, first-at}
 use Rattle.demands.proofs.Codes.{or-right, and-false}
 use Rattle.demands.proofs.Short.{short as too-short}
 use Rattle.demands.proofs.Codes as codes
-use Rattle.demands.specs.Refusals.{stays, drops, errs, Covered, Needs, Other, Brings, Wrong, Dropped, Errors, Locks, Alone, BadCount, Transfer, Port, Refusals}
+use Rattle.demands.specs.Refusals.{stays, drops, errs, Covered, Needs, Other, Brings, OutOfPlace, Dropped, Errors, Locks, NoImageRefused, BadCount, TransferRefused, PortRefused, Refusals}
 
 -- an image that is not good: its number's row, whatever comes after
 image-first : (m : List ℕ) (leaving : ℕ → Result) (more : Rows) (last : Result) (n : ℕ) → checkOf m ≡ refused n → first (imageRows leaving m ++ more) last ≡ leaving n
@@ -305,7 +305,7 @@ module _ (a : Air) (r : Register) (idle : Idle (layoutOf (a .image)) (a .image))
       ∙ ap (λ (b : Bool). not b || (asksOf o .cover && true) || asksOf o .bad) (and-false (asksOf o .early))
   not-admitted m n o (inr d) = ap (λ (b : Bool). not (b && eqb m n) || (asksOf o .cover && true) || asksOf o .bad) (early o d)
 
-  wrongs : Wrong answerOf a r
+  wrongs : OutOfPlace answerOf a r
   wrongs =
       record {
         arbitrate = λ n o s. says-9 state.Arbitrate n o s refl;
@@ -511,7 +511,7 @@ not-arbitrate (state.Open k) d = refl
 not-arbitrate (state.Secured k) d = refl
 not-arbitrate state.Killed d = refl
 
-alone-lines : (m : List ℕ) → Alone answerOf m
+alone-lines : (m : List ℕ) → NoImageRefused answerOf m
 unfolding admitOf askOf releaseOf registerOf
 alone-lines m =
     record {
@@ -578,7 +578,7 @@ module _ (m room : List ℕ) (c : Call) (bad : Bool) (x : Listed m room c bad) w
         x .same (on st b r)
         ∙ first-at (suc (suc (suc (suc (suc (suc k)))))) (all (on st b r)) (x .last (on st b r)) (i .0, (i .1, (i .2, (idle-5, (ap not e, (d, h))))))
 
-  transfer-lines : Transfer answerOf m c room
+  transfer-lines : TransferRefused answerOf m c room
   unfolding all
   transfer-lines =
       record {
@@ -636,7 +636,7 @@ bad-data y at n d e f =
     go (inl g) = ap (λ (b : Bool). b || ltb (pairsIn y) n) (bad-count y at n g)
     go (inr l) = or-right (badCount y at n) (ltb (pairsIn y) n) (lt-ltb (pairsIn y) n l)
 
-port-lines : (m : List ℕ) (st : State) (r : Register) → Idle (layoutOf m) m → Port answerOf (layoutOf m) m st r
+port-lines : (m : List ℕ) (st : State) (r : Register) → Idle (layoutOf m) m → PortRefused answerOf (layoutOf m) m st r
 unfolding read-listed
 port-lines m st r idle =
     record {
@@ -682,6 +682,6 @@ when-refused =
       alone = alone-lines;
       reads = λ m at n room. transfer-lines m room (read at n room) (badCount (layoutOf m) at n) (read-listed m at n room);
       writes = λ m at d u. transfer-lines m [] (write at d u) (badData (layoutOf m) at d) (write-listed m at d u);
-      port = λ y m st r idle. subst (λ (z : Layout). Port answerOf z m st r) (sym (own-layout y m idle)) (port-lines m st r (own-idle y m idle));
+      port = λ y m st r idle. subst (λ (z : Layout). PortRefused answerOf z m st r) (sym (own-layout y m idle)) (port-lines m st r (own-idle y m idle));
       short = too-short;
     }

@@ -23,7 +23,7 @@ use Rattle.tag.specs.Result.{Result}
 use Rattle.tag.specs.Table.{Input, input, liveOf, broken, comes, effect, isError, replyOr, replyOf, fits, storesOf, everything, cut, replied, rows, frameOf}
 use Rattle.demands.specs.Calls.{Tag, answerOf}
 use Rattle.demands.specs.Demands.{Storing, lasting}
-use Rattle.demands.specs.Refusals.{Short}
+use Rattle.demands.specs.Refusals.{TooLittle}
 use Rattle.demands.proofs.Codes.{and-false}
 use Rattle.demands.proofs.Rows.{Rows, None, Each, first-or, none-first, first-at, heard-same, Refused, Acting, wordsOf, acts}
 use Rattle.demands.proofs.Cuts.{power-fails, power-made}
@@ -147,7 +147,7 @@ module _ (v : Session) (m f : List ℕ) (bits fresh : ℕ) where
               ),
             )
 
-pub short : Short answerOf
+pub short : TooLittle answerOf
 unfolding at
 short =
     record {

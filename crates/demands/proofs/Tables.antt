@@ -62,7 +62,7 @@ module _ (t : Tag) (c : Call) where
   refusal n e =
       record {
         listed = refusal-small n e;
-        refused = λ q. refl;
+        everything = λ q. refl;
         error = λ q. absurd (other q refl);
         coded = λ q. absurd (other q refl);
         lost = λ q. absurd (other q refl);
@@ -79,7 +79,7 @@ module _ (t : Tag) (c : Call) where
   zero-answer r z s k v =
       record {
         listed = omega (arith, z);
-        refused = λ q. absurd (false≢true (sym (ap refuses z) ∙ q));
+        everything = λ q. absurd (false≢true (sym (ap refuses z) ∙ q));
         error = λ q. absurd (omega (arith, z, q));
         coded = λ q. absurd (omega (arith, z, q));
         lost = λ q. absurd (omega (arith, z, q));
@@ -94,7 +94,7 @@ module _ (t : Tag) (c : Call) where
   lost-answer l =
       record {
         listed = lit≤ tt;
-        refused = λ q. absurd (false≢true q);
+        everything = λ q. absurd (false≢true q);
         error = λ q. absurd (omega arith);
         coded = λ q. absurd (omega arith);
         lost = λ q. (l, refl);
@@ -147,7 +147,7 @@ module _ (v : Session) (m f : List ℕ) (bits fresh : ℕ) (room : List ℕ) (s 
       let h = linkOf (stateOf handed) .handle in
       record {
         listed = lit≤ tt;
-        refused = λ q. absurd (false≢true q);
+        everything = λ q. absurd (false≢true q);
         error = λ q. (refl, refl, refl, error-length c b h d e, ap (λ (x : Reply). packed (replyBits m x) room) (error-same c b h d e));
         coded = λ q. code-known c b heard-among e;
         lost = λ q. absurd (omega arith);
@@ -162,7 +162,7 @@ module _ (v : Session) (m f : List ℕ) (bits fresh : ℕ) (room : List ℕ) (s 
   dropped-row =
       record {
         listed = lit≤ tt;
-        refused = λ q. absurd (false≢true q);
+        everything = λ q. absurd (false≢true q);
         error = λ q. absurd (omega arith);
         coded = λ q. absurd (omega arith);
         lost = λ q. absurd (omega arith);

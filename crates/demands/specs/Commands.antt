@@ -89,9 +89,20 @@ pub record Says (a : Air) (n : ℕ) (o : Order) : Type 0 where
   pub heard : heardOf (a .frame) (a .bits) ≡ heard.said (record { number = n; order = o })
   pub right : checksumRight (a .frame) (a .bits) ≡ true
 
--- the order o with the number n, to a tag in the state st: it comes to the state, the reply and the words
-abbrev pub Does : Program → Layout → Air → Register → ℕ → Order → State → State → Reply → List Store → Type 0
-Does A y a r n o st st′ rp ws = Says a n o → Enough y a rp ws → hears A a (on st false r) ≡ done y a r st′ rp ws
+-- what a command comes to: a state, a reply and the words stored
+pub record End : Type 0 where
+  pub state : State
+  pub reply : Reply
+  pub words : List Store
+
+-- the order o with the number n, to a tag in the state st, comes to e
+abbrev pub Does : Program → Layout → Air → Register → ℕ → Order → State → End → Type 0
+Does A y a r n o st e =
+    Says a n o → Enough y a (e .reply) (e .words) → hears A a (on st false r) ≡ done y a r (e .state) (e .reply) (e .words)
+
+-- of a frame's words from bit `at` on, for a bank's words from p on, the one for word 1
+abbrev pub pcSent : Air → ℕ → ℕ → ℕ
+pcSent a at p = fieldAt (a .frame) (at + 16 * (1 - p)) 16
 
 -- n words of the frame from bit p on, for the words from o on
 abbrev pub wordsTo : ℕ → List ℕ → ℕ → ℕ → List Store
@@ -100,68 +111,74 @@ wordsTo o f p n = below (λ j. store (o + j) (fieldAt f (p + 16 * j) 16)) n
 pub record Radio (A : Program) (y : Layout) (a : Air) (r : Register) : Type 0 where
   -- Req_RN with the admission number: the fresh word is the handle, the state Open if the access password is nonzero, else Secured
   pub req-rn : (n : ℕ) → accessWord y (a .image) 0 ≡ 0 → accessWord y (a .image) 1 ≡ 0
-      → Does A y a r n order.ReqRn (state.Acknowledged n) (state.Secured (link (a .fresh) cover.Nothing half.Nothing)) (reply.Number (a .fresh)) []
+      → Does A y a r n order.ReqRn (state.Acknowledged n)
+      (record { state = state.Secured (link (a .fresh) cover.Nothing half.Nothing); reply = reply.Number (a .fresh); words = [] })
   pub req-rn-open : (n : ℕ) → (accessWord y (a .image) 0 ≢ 0) ⊎ (accessWord y (a .image) 1 ≢ 0)
-      → Does A y a r n order.ReqRn (state.Acknowledged n) (state.Open (link (a .fresh) cover.Nothing half.Nothing)) (reply.Number (a .fresh)) []
+      → Does A y a r n order.ReqRn (state.Acknowledged n)
+      (record { state = state.Open (link (a .fresh) cover.Nothing half.Nothing); reply = reply.Number (a .fresh); words = [] })
   -- Req_RN with the handle: the fresh word is the cover number
-  pub req-rn-cover : (q : Bool) (h : ℕ) (c : Cover) (p : Half)
-      → Does A y a r h order.ReqRn (linked q (link h c p)) (linked q (link h (cover.Number (a .fresh)) p)) (reply.Number (a .fresh)) []
+  pub req-rn-cover : (secured : Bool) (h : ℕ) (c : Cover) (p : Half)
+      → Does A y a r h order.ReqRn (linked secured (link h c p))
+      (record { state = linked secured (link h (cover.Number (a .fresh)) p); reply = reply.Number (a .fresh); words = [] })
   -- Read: k words, where nothing is against it: those that it asks for, or with WordCount 0 all to the bank's end
-  pub read : (q : Bool) (h : ℕ) (c : Cover) (b p n k : ℕ) → Readable y (a .image) q b p n
+  pub read : (secured : Bool) (h : ℕ) (c : Cover) (b p n k : ℕ) → Readable y (a .image) secured b p n
       → ((1 ≤ n) × (k ≡ n)) ⊎ ((n ≡ 0) × (p + k ≡ bankOf y b .words))
-      → Does A y a r h (order.Read (span b p n)) (linked q (link h c half.Nothing)) (linked q (link h cover.Nothing half.Nothing))
-      (reply.Words (bankOf y b .at + p) k h) []
+      → Does A y a r h (order.Read (span b p n)) (linked secured (link h c half.Nothing))
+      (record { state = linked secured (link h cover.Nothing half.Nothing); reply = reply.Words (bankOf y b .at + p) k h; words = [] })
   -- Write: the word without its cover, which is used up
-  pub write : (q : Bool) (h c : ℕ) (b p w : ℕ) → Writable y (a .image) q b p 1 (bitXor w c)
-      → Does A y a r h (order.Write (span b p 1) w) (linked q (link h (cover.Number c) half.Nothing)) (linked q (link h cover.Nothing half.Nothing))
-      (reply.Success h) (store (bankOf y b .at + p) (bitXor w c) ∷ [])
+  pub write : (secured : Bool) (h c : ℕ) (b p w : ℕ) → Writable y (a .image) secured b p 1 (bitXor w c)
+      → Does A y a r h (order.Write (span b p 1) w) (linked secured (link h (cover.Number c) half.Nothing))
+      (record { state = linked secured (link h cover.Nothing half.Nothing); reply = reply.Success h; words = store (bankOf y b .at + p) (bitXor w c) ∷ [] })
   -- Kill, the first half: it waits, uncovered, where the kill password is nonzero
-  pub kill-first : (q : Bool) (h c w : ℕ) → (killWord y (a .image) 0 ≢ 0) ⊎ (killWord y (a .image) 1 ≢ 0)
-      → Does A y a r h (order.Kill w) (linked q (link h (cover.Number c) half.Nothing)) (linked q (link h cover.Nothing (half.Kill (bitXor w c)))) (reply.Number h) []
+  pub kill-first : (secured : Bool) (h c w : ℕ) → (killWord y (a .image) 0 ≢ 0) ⊎ (killWord y (a .image) 1 ≢ 0)
+      → Does A y a r h (order.Kill w) (linked secured (link h (cover.Number c) half.Nothing))
+      (record { state = linked secured (link h cover.Nothing (half.Kill (bitXor w c))); reply = reply.Number h; words = [] })
   -- Kill, the second: where both are the password's, killed is stored as 1
-  pub kill-second : (q : Bool) (h c w up : ℕ) → up ≡ killWord y (a .image) 0 → bitXor w c ≡ killWord y (a .image) 1
-      → Does A y a r h (order.Kill w) (linked q (link h (cover.Number c) (half.Kill up))) state.Killed (reply.Success h) (store (y .status .at + 1) 1 ∷ [])
+  pub kill-second : (secured : Bool) (h c w up : ℕ) → up ≡ killWord y (a .image) 0 → bitXor w c ≡ killWord y (a .image) 1
+      → Does A y a r h (order.Kill w) (linked secured (link h (cover.Number c) (half.Kill up)))
+      (record { state = state.Killed; reply = reply.Success h; words = store (y .status .at + 1) 1 ∷ [] })
   -- Lock, in Secured: the masked bits of the lock word are the action's
   pub lock : (h : ℕ) (c : Cover) (mask action : ℕ) → Lockable y (a .image) mask action
-      → Does A y a r h (order.Lock mask action) (state.Secured (link h c half.Nothing)) (state.Secured (link h cover.Nothing half.Nothing)) (reply.Success h)
-      (store (y .status .at) (lockedTo (lockWord y (a .image)) mask action) ∷ [])
+      → Does A y a r h (order.Lock mask action) (state.Secured (link h c half.Nothing))
+      (record { state = state.Secured (link h cover.Nothing half.Nothing); reply = reply.Success h; words = store (y .status .at) (lockedTo (lockWord y (a .image)) mask action) ∷ [] })
   -- Access, the first half, and the second where both are the password's
-  pub access-first : (q : Bool) (h c w : ℕ)
-      → Does A y a r h (order.Access w) (linked q (link h (cover.Number c) half.Nothing)) (linked q (link h cover.Nothing (half.Access (bitXor w c)))) (reply.Number h) []
-  pub access-second : (q : Bool) (h c w up : ℕ) → up ≡ accessWord y (a .image) 0 → bitXor w c ≡ accessWord y (a .image) 1
-      → Does A y a r h (order.Access w) (linked q (link h (cover.Number c) (half.Access up))) (state.Secured (link h cover.Nothing half.Nothing)) (reply.Number h) []
+  pub access-first : (secured : Bool) (h c w : ℕ)
+      → Does A y a r h (order.Access w) (linked secured (link h (cover.Number c) half.Nothing))
+      (record { state = linked secured (link h cover.Nothing (half.Access (bitXor w c))); reply = reply.Number h; words = [] })
+  pub access-second : (secured : Bool) (h c w up : ℕ) → up ≡ accessWord y (a .image) 0 → bitXor w c ≡ accessWord y (a .image) 1
+      → Does A y a r h (order.Access w) (linked secured (link h (cover.Number c) (half.Access up)))
+      (record { state = state.Secured (link h cover.Nothing half.Nothing); reply = reply.Number h; words = [] })
   -- BlockWrite: the words of the frame
-  pub block-write : (q : Bool) (h : ℕ) (c : Cover) (b p n at : ℕ) → 1 ≤ n
-      → Writable y (a .image) q b p n (fieldAt (a .frame) (at + 16 * (1 - p)) 16)
-      → Does A y a r h (order.BlockWrite (span b p n) at) (linked q (link h c half.Nothing)) (linked q (link h cover.Nothing half.Nothing))
-      (reply.Success h) (wordsTo (bankOf y b .at + p) (a .frame) at n)
+  pub block-write : (secured : Bool) (h : ℕ) (c : Cover) (b p n at : ℕ) → 1 ≤ n
+      → Writable y (a .image) secured b p n (pcSent a at p)
+      → Does A y a r h (order.BlockWrite (span b p n) at) (linked secured (link h c half.Nothing))
+      (record { state = linked secured (link h cover.Nothing half.Nothing); reply = reply.Success h; words = wordsTo (bankOf y b .at + p) (a .frame) at n })
   -- BlockErase: zeros
-  pub block-erase : (q : Bool) (h : ℕ) (c : Cover) (b p n : ℕ) → 1 ≤ n → Writable y (a .image) q b p n 0
-      → Does A y a r h (order.BlockErase (span b p n)) (linked q (link h c half.Nothing)) (linked q (link h cover.Nothing half.Nothing))
-      (reply.Success h) (below (λ j. store (bankOf y b .at + p + j) 0) n)
+  pub block-erase : (secured : Bool) (h : ℕ) (c : Cover) (b p n : ℕ) → 1 ≤ n → Writable y (a .image) secured b p n 0
+      → Does A y a r h (order.BlockErase (span b p n)) (linked secured (link h c half.Nothing))
+      (record { state = linked secured (link h cover.Nothing half.Nothing); reply = reply.Success h; words = below (λ j. store (bankOf y b .at + p + j) 0) n })
   -- BlockPermalock that reads: PERMA words
   pub permalock-read : (h : ℕ) (c : Cover) (p n : ℕ) → 1 ≤ n → p + n ≤ y .perma .words
-      → Does A y a r h (order.ReadPermalock 0 (span 3 p n)) (state.Secured (link h c half.Nothing)) (state.Secured (link h cover.Nothing half.Nothing))
-      (reply.Words (y .perma .at + p) n h) []
+      → Does A y a r h (order.ReadPermalock 0 (span 3 p n)) (state.Secured (link h c half.Nothing))
+      (record { state = state.Secured (link h cover.Nothing half.Nothing); reply = reply.Words (y .perma .at + p) n h; words = [] })
   -- and one that locks: masked bits are added
   pub permalock : (h : ℕ) (c : Cover) (p n at : ℕ) → 1 ≤ n → PermaLockable y (a .image) p n (a .frame) at
-      → Does A y a r h (order.Permalock 0 (span 3 p n) at) (state.Secured (link h c half.Nothing)) (state.Secured (link h cover.Nothing half.Nothing))
-      (reply.Success h)
-      (below (λ j. let i = y .perma .at + p + j in store i (bitOr (wordAt (a .image) i) (fieldAt (a .frame) (at + 16 * j) 16))) n)
+      → Does A y a r h (order.Permalock 0 (span 3 p n) at) (state.Secured (link h c half.Nothing))
+      (record { state = state.Secured (link h cover.Nothing half.Nothing); reply = reply.Success h; words = below (λ j. let i = y .perma .at + p + j in store i (bitOr (wordAt (a .image) i) (fieldAt (a .frame) (at + 16 * j) 16))) n })
   -- NAK: Arbitrate, and no reply
   pub nak : (st : State) → st ≢ state.Killed → heardOf (a .frame) (a .bits) ≡ heard.nak → hears A a (on st false r) ≡ done y a r state.Arbitrate reply.Silence []
 
 -- calls without an image, of a tag with any: the gate's admission in Arbitrate with the port free; the port asked for outside Open and Secured, given back, and
 -- its register as a number, cleared
-pub record Calls (A : Program) (m : List ℕ) (st : State) (r : Register) : Type 0 where
+pub record NoImage (A : Program) (m : List ℕ) (st : State) (r : Register) : Type 0 where
   pub admit : (n : ℕ) → asked A (on state.Arbitrate false r) m (call.admit n) ≡ answered 0 (on (state.Acknowledged n) false r)
-  pub ask : ((q : Bool) (k : Link) → st ≢ linked q k) → asked A (on st false r) m call.ask ≡ answered 0 (on st true r)
+  pub ask : ((secured : Bool) (k : Link) → st ≢ linked secured k) → asked A (on st false r) m call.ask ≡ answered 0 (on st true r)
   pub release : asked A (on st true r) m call.release ≡ answered 0 (on st false r)
   pub register : asked A (on st true r) m call.register
       ≡ record { number = 0; session = on st true clear; reply = 0; stores = 0; value = numberIn r; image = []; room = [] }
 
 -- transfers through the port, with the image m
-pub record Engine (A : Program) (y : Layout) (m : List ℕ) (st : State) (r : Register) : Type 0 where
+pub record Transfers (A : Program) (y : Layout) (m : List ℕ) (st : State) (r : Register) : Type 0 where
   -- the words of USER, high byte first
   pub read : (at n : ℕ) (room : List ℕ) → st ≢ state.Killed → 1 ≤ n → n ≤ 255 → at + n ≤ y .user .words → 2 * n ≤ length room
       → asked A (on st true r) m (call.read at n room) ≡ gives 0 (on st true r) (16 * n) 0 m (packed (wordsBits m (y .user .at + at) n) room)
@@ -193,5 +210,5 @@ pub record Demand2 (A : Program) : Type 0 where
   pub terms : Terms
   pub start : (y : Layout) (m : List ℕ) → checkOf m ≡ good y → Start A y m (after m (powerStores y m))
   pub radio : (y : Layout) (a : Air) (r : Register) → Idle y (a .image) → Radio A y a r
-  pub calls : (m : List ℕ) (st : State) (r : Register) → Calls A m st r
-  pub engine : (y : Layout) (m : List ℕ) (st : State) (r : Register) → Idle y m → Engine A y m st r
+  pub calls : (m : List ℕ) (st : State) (r : Register) → NoImage A m st r
+  pub engine : (y : Layout) (m : List ℕ) (st : State) (r : Register) → Idle y m → Transfers A y m st r

@@ -46,7 +46,7 @@ AnErrorCode e = (e ≡ code.Error 0x00) ⊎ (e ≡ code.Error 0x03) ⊎ (e ≡ c
 -- (none where it changes no word, 3n + 2 for n); a value is handed back where the register is read, and is 0 elsewhere
 pub record Tabled (t : Tag) (c : Call) (r : Result) : Type 0 where
   pub listed : r .number ≤ 13
-  pub refused : refuses (r .number) ≡ true → r ≡ leaves (r .number) (sessionIn t c) (imageIn t c) (roomIn c)
+  pub everything : refuses (r .number) ≡ true → r ≡ leaves (r .number) (sessionIn t c) (imageIn t c) (roomIn c)
   pub error : r .number ≡ 10
       → let l = liveOf (t .session .power) in
       (r .image ≡ imageIn t c)
@@ -128,7 +128,7 @@ Rising (s ∷ []) = Unit {0}
 Rising (s ∷ u ∷ ss) = (s .at < u .at) × Rising (u ∷ ss)
 
 -- from a good image with nothing pending, c is done with power for `enough`, and changes n words; what is lent as an image consists of bytes
-pub record Stores (A : Program) (y : Layout) (t : Tag) (c : Storing) (n enough : ℕ) : Type 0 where
+pub record Completes (A : Program) (y : Layout) (t : Tag) (c : Storing) (n enough : ℕ) : Type 0 where
   pub bytes : Bytes (t .image)
   pub idle : Idle y (t .image)
   pub some : 1 ≤ n
@@ -136,8 +136,8 @@ pub record Stores (A : Program) (y : Layout) (t : Tag) (c : Storing) (n enough :
   pub words : length (wordsIn t (lasting c enough)) ≡ n
 
 -- a power-up of the image m with power for s stores; the image after power-ups, each cut
-abbrev pub start : Program → List ℕ → ℕ → Result
-start A m s = asked A offSession m (powerUp s)
+abbrev pub poweredUp : Program → List ℕ → ℕ → Result
+poweredUp A m s = asked A offSession m (powerUp s)
 
 abbrev pub powerUps : Program → List Cut → List ℕ → List ℕ
 powerUps A [] m = m
@@ -146,25 +146,25 @@ powerUps A (f ∷ fs) m = powerUps A fs (torn A (record { session = offSession; 
 -- m after a whole power-up is n after one, outside WORK
 abbrev pub SameOnce : Program → Layout → List ℕ → List ℕ → Type 0
 SameOnce A y m n =
-    (j k : ℕ) → start A m j .number ≡ 0 → start A n k .number ≡ 0
-    → (i : ℕ) → i < y .work .at → wordAt (start A m j .image) i ≡ wordAt (start A n k .image) i
+    (j k : ℕ) → poweredUp A m j .number ≡ 0 → poweredUp A n k .number ≡ 0
+    → (i : ℕ) → i < y .work .at → wordAt (poweredUp A m j .image) i ≡ wordAt (poweredUp A n k .image) i
 
 -- m, which is left where k stores count as made, comes to the old words or to the new ones; no power-up of it that lasts for 257 stores (255 words, the count 0 and the CRC-16) is refused or cut
 pub record Unbroken (A : Program) (y : Layout) (t : Tag) (c : Storing) (n enough k : ℕ) (m : List ℕ) : Type 0 where
   pub old : k ≤ 2 * n → SameOnce A y m (t .image)
   pub new : 2 * n < k → SameOnce A y m (A t (lasting c enough) .image)
-  pub starts : (u : ℕ) → 257 ≤ u → start A m u .number ≡ 0
+  pub starts : (u : ℕ) → 257 ≤ u → poweredUp A m u .number ≡ 0
 
 -- it makes 3n + 2 stores for its words, which rise; the two images to compare with have a whole power-up; and cut anywhere it is unbroken
-pub record Cuts (A : Program) (y : Layout) (t : Tag) (c : Storing) (n enough : ℕ) : Type 0 where
+pub record Survives (A : Program) (y : Layout) (t : Tag) (c : Storing) (n enough : ℕ) : Type 0 where
   pub stores : A t (lasting c enough) .stores ≡ 3 * n + 2
   pub rising : Rising (wordsIn t (lasting c enough))
-  pub never : (u : ℕ) → 257 ≤ u → start A (t .image) u .number ≡ 0
-  pub finished : (u : ℕ) → 257 ≤ u → start A (A t (lasting c enough) .image) u .number ≡ 0
+  pub never : (u : ℕ) → 257 ≤ u → poweredUp A (t .image) u .number ≡ 0
+  pub finished : (u : ℕ) → 257 ≤ u → poweredUp A (A t (lasting c enough) .image) u .number ≡ 0
   pub cut : (f : Cut) (fs : List Cut) → Unbroken A y t c n enough (reaches y f) (powerUps A fs (torn A t (lasting c (f .whole)) (f .byte)))
 
 abbrev pub Demand3 : Program → Type 0
-Demand3 A = (y : Layout) (t : Tag) (c : Storing) (n enough : ℕ) → Stores A y t c n enough → Cuts A y t c n enough
+Demand3 A = (y : Layout) (t : Tag) (c : Storing) (n enough : ℕ) → Completes A y t c n enough → Survives A y t c n enough
 
 -- So, through any run of commands, SPI transfers, admissions, cuts and power-ups from such an image, with any inputs and any sessions: from any point of
 -- the run to any later one the image stays good, header and TID stay, no permalock is taken off, the pwd bit of a permalocked pair stays, and no USER word of a
@@ -186,7 +186,7 @@ AnyRun A = (y : Layout) (m : List ℕ) (before later : List Turn) → Bytes m �
 -- the image after power-ups with power for ks stores, and after a run of calls
 abbrev pub wholePowerUps : Program → List ℕ → List ℕ → List ℕ
 wholePowerUps A [] m = m
-wholePowerUps A (k ∷ ks) m = wholePowerUps A ks (start A m k .image)
+wholePowerUps A (k ∷ ks) m = wholePowerUps A ks (poweredUp A m k .image)
 
 abbrev pub wholeRun : Program → List ℕ → List (Session × Call) → List ℕ
 wholeRun A m [] = m
@@ -194,7 +194,7 @@ wholeRun A m (c ∷ cs) = wholeRun A (imageAfter A (record { session = c .0; ima
 
 abbrev pub WholeWords : Program → Type 0
 WholeWords A =
-    (y : Layout) (t : Tag) (c : Storing) (n enough : ℕ) → Stores A y t c n enough
+    (y : Layout) (t : Tag) (c : Storing) (n enough : ℕ) → Completes A y t c n enough
     → (s : ℕ) (ks : List ℕ) → let r = A t (lasting c s) in Unbroken A y t c n enough (r .stores) (wholePowerUps A ks (r .image))
 
 abbrev pub WholeRuns : Program → Type 0

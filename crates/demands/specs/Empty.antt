@@ -32,7 +32,7 @@ use Rattle.tag.specs.Result.{Result}
 use Rattle.tag.specs.Power.{powerUpOf}
 use Rattle.tag.specs.Table.{Input, input, everything, effect, storesOf, frameOf}
 use Rattle.demands.specs.Calls.{powerUp, admit, frame, ask, release, register, read, write, Program, answerOf, torn}
-use Rattle.demands.specs.Demands.{Demand1, Demand3, Stores, lasting}
+use Rattle.demands.specs.Demands.{Demand1, Demand3, Completes, lasting}
 use Rattle.demands.specs.Commands.{Demand2, hears, link, done}
 use Rattle.demands.specs.Worked.{write3, readTwo}
 use Rattle.demands.specs.Torn.{tag, p7}
@@ -123,7 +123,7 @@ idling-falls d =
     omega arith
 
 -- demand 3, at a cut of 1: one store made is at most 2n, but the word is new after the next power-up; torn there, it is neither the old one nor the new one
-sham-stores : Stores shamming workedLayout tag p7 1 5
+sham-stores : Completes shamming workedLayout tag p7 1 5
 unfolding frameOf layoutOf headerGood blocksIn contentGood rulesHold worked wordAt withWord wordsBits bitsOf crcOf fieldAt pointerAt heardOf checksumRight filled packed checked writeCode write3
 sham-stores = record { bytes = worked-bytes; idle = met .idle; some = lit≤ tt; done = refl; words = refl }
 

@@ -14,20 +14,20 @@ use Rattle.states.specs.Commands.{accessWord}
 
 -- 3.18: pair k of the lock word, pwd and permalock: 00 and 01 are open in Open and Secured, 10 in Secured, 11 never
 abbrev pub Opens : Bool → ℕ → ℕ → Type 0
-Opens q lock k = (pwdBit lock k ≡ 0) ⊎ ((q ≡ true) × (permaBit lock k ≡ 0))
+Opens secured lock k = (pwdBit lock k ≡ 0) ⊎ ((secured ≡ true) × (permaBit lock k ≡ 0))
 
 -- 3.19: RESERVED is read by the kill pair, words 0 and 1, and the access pair, all others; other banks always
 abbrev pub MayRead : Layout → List ℕ → Bool → ℕ → ℕ → Type 0
-MayRead y m q b i = let l = lockWord y m in (b ≢ 0) ⊎ ((i < 2) × Opens q l 0) ⊎ ((2 ≤ i) × Opens q l 1)
+MayRead y m secured b i = let l = lockWord y m in (b ≢ 0) ⊎ ((i < 2) × Opens secured l 0) ⊎ ((2 ≤ i) × Opens secured l 1)
 
 -- RESERVED is written by the same pairs, EPC and USER by their own; EPC word 0, TID and USER words of a permalocked block never
 abbrev pub MayWrite : Layout → List ℕ → Bool → ℕ → ℕ → Type 0
-MayWrite y m q b i =
+MayWrite y m secured b i =
     let l = lockWord y m in
-    ((b ≡ 0) × (i < 2) × Opens q l 0)
-    ⊎ ((b ≡ 0) × (2 ≤ i) × Opens q l 1)
-    ⊎ ((b ≡ 1) × (1 ≤ i) × Opens q l 2)
-    ⊎ ((b ≡ 3) × Opens q l 4 × (permalock y m (i / y .block) ≡ 0))
+    ((b ≡ 0) × (i < 2) × Opens secured l 0)
+    ⊎ ((b ≡ 0) × (2 ≤ i) × Opens secured l 1)
+    ⊎ ((b ≡ 1) × (1 ≤ i) × Opens secured l 2)
+    ⊎ ((b ≡ 3) × Opens secured l 4 × (permalock y m (i / y .block) ≡ 0))
 
 -- 3.20: n words of a bank of so many, from word p on, end within it
 abbrev pub Within : ℕ → ℕ → ℕ → Type 0
@@ -42,17 +42,17 @@ TakesPc b p n = (b ≡ 1) × (p ≤ 1) × (1 < p + n)
 
 -- every one of n words from p on may be written
 abbrev pub AllRight : Layout → List ℕ → Bool → ℕ → ℕ → ℕ → Type 0
-AllRight y m q b p n = (j : ℕ) → j < n → MayWrite y m q b (p + j)
+AllRight y m secured b p n = (j : ℕ) → j < n → MayWrite y m secured b (p + j)
 
 -- a Read of n words, or to the bank's end where n is 0: within the bank, and each word may be read
-pub record Readable (y : Layout) (m : List ℕ) (q : Bool) (b p n : ℕ) : Type 0 where
+pub record Readable (y : Layout) (m : List ℕ) (secured : Bool) (b p n : ℕ) : Type 0 where
   pub within : Within (bankOf y b .words) p n
-  pub right : (j : ℕ) → (j < n) ⊎ ((n ≡ 0) × (p + j < bankOf y b .words)) → MayRead y m q b (p + j)
+  pub right : (j : ℕ) → (j < n) ⊎ ((n ≡ 0) × (p + j < bankOf y b .words)) → MayRead y m secured b (p + j)
 
 -- words written: within the bank, each with its right, a PC that fits, and at most W of them
-pub record Writable (y : Layout) (m : List ℕ) (q : Bool) (b p n pc : ℕ) : Type 0 where
+pub record Writable (y : Layout) (m : List ℕ) (secured : Bool) (b p n pc : ℕ) : Type 0 where
   pub within : Within (bankOf y b .words) p n
-  pub right : AllRight y m q b p n
+  pub right : AllRight y m secured b p n
   pub length : TakesPc b p n → lengthOf pc + 2 ≤ y .epc .words
   pub few : n ≤ pairsIn y
 

@@ -38,7 +38,7 @@ use Rattle.tag.specs.Power.{powerUpOf}
 use Rattle.tag.specs.Table.{frameOf}
 use Rattle.tag.specs.Port.{writeOf}
 use Rattle.demands.specs.Calls.{Tag, frame, answerOf, Meets, Idle}
-use Rattle.demands.specs.Demands.{byPort, lasting, Stores}
+use Rattle.demands.specs.Demands.{byPort, lasting, Completes}
 use Rattle.demands.specs.Facts.{Readable, Writable, Lockable, PermaLockable, PortWrites}
 use Rattle.demands.specs.Commands.{Air, Says, Enough, wordsTo}
 use Rattle.demands.specs.Worked.{reqRn, write3, readTwo, usedUp}
@@ -161,9 +161,9 @@ pub record Met : Type 0 where
   pub engine : (2 + 4 ≤ workedLayout .user .words) × (length fourWords ≡ 8)
   pub engine-words : (j : ℕ) → j < 4 → PortWrites workedLayout worked (2 + j)
   -- demand 3: a Write of one word and an SPI write of four, done; the power-ups after their cuts, whole
-  pub radio-done : Stores answerOf workedLayout tag p7 1 5
+  pub radio-done : Completes answerOf workedLayout tag p7 1 5
   pub radio-whole : (powerUpOf (answerOf tag (lasting p7 2) .image) 257 .number ≡ 0) × (powerUpOf (answerOf tag (lasting p7 3) .image) 257 .number ≡ 0)
-  pub port-done : Stores answerOf workedLayout holder (byPort 2 fourWords) 4 14
+  pub port-done : Completes answerOf workedLayout holder (byPort 2 fourWords) 4 14
   pub port-whole : powerUpOf (answerOf holder (lasting (byPort 2 fourWords) 9) .image) 257 .number ≡ 0
   -- any run: an image with a permalocked block
   pub locked-block : Bytes locked × Idle workedLayout locked × (permalock workedLayout locked 0 ≡ 1)

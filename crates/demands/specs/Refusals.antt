@@ -35,7 +35,7 @@ use Rattle.states.specs.Commands.{accessWord, killWord}
 use Rattle.demands.specs.Calls.{Call, powerUp, admit, ask, release, register, read, write, Tag, Program, asked, Idle}
 use Rattle.demands.specs.Demands.{Storing, lasting}
 use Rattle.demands.specs.Facts.{MayRead, MayWrite, Within, Past, TakesPc, AllRight}
-use Rattle.demands.specs.Commands.{Air, hears, linked, link, Says}
+use Rattle.demands.specs.Commands.{Air, hears, linked, link, Says, pcSent}
 
 -- everything as before
 abbrev pub stays : ℕ → Air → Session → Result
@@ -47,10 +47,10 @@ drops a r = leaves 12 (on state.Arbitrate false r) (a .image) (a .room)
 
 -- the error reply of 41 bits; the cover number is used up
 abbrev pub errs : Air → Register → Bool → ℕ → Half → ℕ → Result
-errs a r q h p e =
+errs a r secured h p e =
     record {
       number = 10;
-      session = on (linked q (link h cover.Nothing p)) false r;
+      session = on (linked secured (link h cover.Nothing p)) false r;
       reply = 41;
       stores = 0;
       value = 0;
@@ -64,16 +64,16 @@ Covered cover.Nothing = ⊥
 Covered (cover.Number n) = Unit {0}
 
 abbrev pub Needs : Bool → Cover → Order → Type 0
-Needs q c order.ReqRn = Unit {0}
-Needs q c (order.Read s) = Unit {0}
-Needs q c (order.Write s w) = Covered c
-Needs q c (order.Kill h) = Covered c
-Needs q c (order.Lock mask action) = q ≡ true
-Needs q c (order.Access h) = Covered c
-Needs q c (order.BlockWrite s p) = 1 ≤ s .count
-Needs q c (order.BlockErase s) = 1 ≤ s .count
-Needs q c (order.ReadPermalock rfu s) = (q ≡ true) × (rfu ≡ 0) × (1 ≤ s .count)
-Needs q c (order.Permalock rfu s p) = (q ≡ true) × (rfu ≡ 0) × (1 ≤ s .count)
+Needs secured c order.ReqRn = Unit {0}
+Needs secured c (order.Read s) = Unit {0}
+Needs secured c (order.Write s w) = Covered c
+Needs secured c (order.Kill h) = Covered c
+Needs secured c (order.Lock mask action) = secured ≡ true
+Needs secured c (order.Access h) = Covered c
+Needs secured c (order.BlockWrite s p) = 1 ≤ s .count
+Needs secured c (order.BlockErase s) = 1 ≤ s .count
+Needs secured c (order.ReadPermalock rfu s) = (secured ≡ true) × (rfu ≡ 0) × (1 ≤ s .count)
+Needs secured c (order.Permalock rfu s p) = (secured ≡ true) × (rfu ≡ 0) × (1 ≤ s .count)
 
 -- 3.15: between the halves of a password any command is another but Req_RN and the one that brings the second half (NAK is no order)
 abbrev pub Other : Half → Order → Type 0
@@ -90,7 +90,7 @@ Brings a cover.Nothing (order.Write s w) b p n pc = ⊥
 Brings a c (order.Kill h) b p n pc = ⊥
 Brings a c (order.Lock mask action) b p n pc = ⊥
 Brings a c (order.Access h) b p n pc = ⊥
-Brings a c (order.BlockWrite s at) b p n pc = (s ≡ span b p n) × (1 ≤ n) × (pc ≡ fieldAt (a .frame) (at + 16 * (1 - p)) 16)
+Brings a c (order.BlockWrite s at) b p n pc = (s ≡ span b p n) × (1 ≤ n) × (pc ≡ pcSent a at p)
 Brings a c (order.BlockErase s) b p n pc = (s ≡ span b p n) × (1 ≤ n) × (pc ≡ 0)
 Brings a c (order.ReadPermalock rfu s) b p n pc = ⊥
 Brings a c (order.Permalock rfu s at) b p n pc = ⊥
@@ -109,7 +109,7 @@ pub record Unheard (A : Program) (a : Air) (st : State) (r : Register) : Type 0 
       → hears A a (on st false r) ≡ stays 8 a (on st false r)
 
 -- 9: a command that the session is not in a state for
-pub record Wrong (A : Program) (a : Air) (r : Register) : Type 0 where
+pub record OutOfPlace (A : Program) (a : Air) (r : Register) : Type 0 where
   pub arbitrate : (n : ℕ) (o : Order) → Says a n o → hears A a (on state.Arbitrate false r) ≡ stays 9 a (on state.Arbitrate false r)
   pub killed : (n : ℕ) (o : Order) → Says a n o → hears A a (on state.Killed false r) ≡ stays 9 a (on state.Killed false r)
   pub killed-nak : heardOf (a .frame) (a .bits) ≡ heard.nak → hears A a (on state.Killed false r) ≡ stays 9 a (on state.Killed false r)
@@ -117,43 +117,43 @@ pub record Wrong (A : Program) (a : Air) (r : Register) : Type 0 where
   pub admission : (m n : ℕ) (o : Order) → Says a n o → (n ≢ m) ⊎ (o ≢ order.ReqRn)
       → hears A a (on (state.Acknowledged m) false r) ≡ stays 9 a (on (state.Acknowledged m) false r)
   -- another number than the handle, or not what the command needs
-  pub handle : (q : Bool) (h : ℕ) (c : Cover) (p : Half) (n : ℕ) (o : Order) → Says a n o → (n ≢ h) ⊎ (Needs q c o → ⊥)
-      → hears A a (on (linked q (link h c p)) false r) ≡ stays 9 a (on (linked q (link h c p)) false r)
+  pub handle : (secured : Bool) (h : ℕ) (c : Cover) (p : Half) (n : ℕ) (o : Order) → Says a n o → (n ≢ h) ⊎ (Needs secured c o → ⊥)
+      → hears A a (on (linked secured (link h c p)) false r) ≡ stays 9 a (on (linked secured (link h c p)) false r)
 
 -- 12: a password that is wrong, or whose halves are broken; c is the cover number
 pub record Dropped (A : Program) (y : Layout) (a : Air) (r : Register) : Type 0 where
-  pub access : (q : Bool) (h c up w : ℕ) → Says a h (order.Access w)
+  pub access : (secured : Bool) (h c up w : ℕ) → Says a h (order.Access w)
       → (up ≢ accessWord y (a .image) 0) ⊎ (bitXor w c ≢ accessWord y (a .image) 1)
-      → hears A a (on (linked q (link h (cover.Number c) (half.Access up))) false r) ≡ drops a r
-  pub kill : (q : Bool) (h c up w : ℕ) → Says a h (order.Kill w)
+      → hears A a (on (linked secured (link h (cover.Number c) (half.Access up))) false r) ≡ drops a r
+  pub kill : (secured : Bool) (h c up w : ℕ) → Says a h (order.Kill w)
       → (up ≢ killWord y (a .image) 0) ⊎ (bitXor w c ≢ killWord y (a .image) 1)
-      → hears A a (on (linked q (link h (cover.Number c) (half.Kill up))) false r) ≡ drops a r
-  pub between : (q : Bool) (h : ℕ) (c : Cover) (p : Half) (o : Order) → Says a h o → Needs q c o → Other p o
-      → hears A a (on (linked q (link h c p)) false r) ≡ drops a r
+      → hears A a (on (linked secured (link h (cover.Number c) (half.Kill up))) false r) ≡ drops a r
+  pub between : (secured : Bool) (h : ℕ) (c : Cover) (p : Half) (o : Order) → Says a h o → Needs secured c o → Other p o
+      → hears A a (on (linked secured (link h c p)) false r) ≡ drops a r
 
 -- 10: an error code, no half waiting and room for the reply of 41 bits, 6 bytes
-pub record Errors (A : Program) (y : Layout) (a : Air) (r : Register) (q : Bool) (h : ℕ) (c : Cover) : Type 0 where
+pub record Errors (A : Program) (y : Layout) (a : Air) (r : Register) (secured : Bool) (h : ℕ) (c : Cover) : Type 0 where
   -- Read
   pub read-past : (b p n : ℕ) → Says a h (order.Read (span b p n)) → Past (bankOf y b .words) p n
-      → hears A a (on (linked q (link h c half.Nothing)) false r) ≡ errs a r q h half.Nothing 0x03
+      → hears A a (on (linked secured (link h c half.Nothing)) false r) ≡ errs a r secured h half.Nothing 0x03
   pub read-right : (b p n j : ℕ) → Says a h (order.Read (span b p n)) → Within (bankOf y b .words) p n
-      → (j < n) ⊎ ((n ≡ 0) × (p + j < bankOf y b .words)) → (MayRead y (a .image) q b (p + j) → ⊥)
-      → hears A a (on (linked q (link h c half.Nothing)) false r) ≡ errs a r q h half.Nothing 0x04
+      → (j < n) ⊎ ((n ≡ 0) × (p + j < bankOf y b .words)) → (MayRead y (a .image) secured b (p + j) → ⊥)
+      → hears A a (on (linked secured (link h c half.Nothing)) false r) ≡ errs a r secured h half.Nothing 0x04
   -- the writing commands, in order: past the end, a word that lacks the right, a PC whose length doesn't fit, more words than W
   pub write-past : (o : Order) (b p n pc : ℕ) → Says a h o → Brings a c o b p n pc → Past (bankOf y b .words) p n
-      → hears A a (on (linked q (link h c half.Nothing)) false r) ≡ errs a r q h half.Nothing 0x03
+      → hears A a (on (linked secured (link h c half.Nothing)) false r) ≡ errs a r secured h half.Nothing 0x03
   pub write-right : (o : Order) (b p n pc j : ℕ) → Says a h o → Brings a c o b p n pc → Within (bankOf y b .words) p n
-      → j < n → (MayWrite y (a .image) q b (p + j) → ⊥)
-      → hears A a (on (linked q (link h c half.Nothing)) false r) ≡ errs a r q h half.Nothing 0x04
+      → j < n → (MayWrite y (a .image) secured b (p + j) → ⊥)
+      → hears A a (on (linked secured (link h c half.Nothing)) false r) ≡ errs a r secured h half.Nothing 0x04
   pub write-pc : (o : Order) (b p n pc : ℕ) → Says a h o → Brings a c o b p n pc → Within (bankOf y b .words) p n
-      → AllRight y (a .image) q b p n → TakesPc b p n → y .epc .words < lengthOf pc + 2
-      → hears A a (on (linked q (link h c half.Nothing)) false r) ≡ errs a r q h half.Nothing 0x03
+      → AllRight y (a .image) secured b p n → TakesPc b p n → y .epc .words < lengthOf pc + 2
+      → hears A a (on (linked secured (link h c half.Nothing)) false r) ≡ errs a r secured h half.Nothing 0x03
   pub write-many : (o : Order) (b p n pc : ℕ) → Says a h o → Brings a c o b p n pc → Within (bankOf y b .words) p n
-      → AllRight y (a .image) q b p n → (TakesPc b p n → lengthOf pc + 2 ≤ y .epc .words) → pairsIn y < n
-      → hears A a (on (linked q (link h c half.Nothing)) false r) ≡ errs a r q h half.Nothing 0x00
+      → AllRight y (a .image) secured b p n → (TakesPc b p n → lengthOf pc + 2 ≤ y .epc .words) → pairsIn y < n
+      → hears A a (on (linked secured (link h c half.Nothing)) false r) ≡ errs a r secured h half.Nothing 0x00
   -- the first Kill with a zero kill password
   pub kill-zero : (k w : ℕ) → c ≡ cover.Number k → Says a h (order.Kill w) → killWord y (a .image) 0 ≡ 0 → killWord y (a .image) 1 ≡ 0
-      → hears A a (on (linked q (link h c half.Nothing)) false r) ≡ errs a r q h half.Nothing 0x00
+      → hears A a (on (linked secured (link h c half.Nothing)) false r) ≡ errs a r secured h half.Nothing 0x00
 
 -- 10 for Lock and BlockPermalock, which work in Secured
 pub record Locks (A : Program) (y : Layout) (a : Air) (r : Register) (h : ℕ) (c : Cover) : Type 0 where
@@ -182,21 +182,21 @@ pub record Locks (A : Program) (y : Layout) (a : Air) (r : Register) (h : ℕ) (
       → hears A a (on (state.Secured (link h c half.Nothing)) false r) ≡ errs a r true h half.Nothing 0x04
 
 -- 5, 6 and 9 of calls without an image, of a tag with any
-pub record Alone (A : Program) (m : List ℕ) : Type 0 where
+pub record NoImageRefused (A : Program) (m : List ℕ) : Type 0 where
   pub admit-off : (n : ℕ) → asked A offSession m (admit n) ≡ leaves 5 offSession [] []
   pub admit-held : (st : State) (r : Register) (n : ℕ) → asked A (on st true r) m (admit n) ≡ leaves 6 (on st true r) [] []
   pub admit-state : (st : State) (r : Register) (n : ℕ) → st ≢ state.Arbitrate → asked A (on st false r) m (admit n) ≡ leaves 9 (on st false r) [] []
   pub ask-off : asked A offSession m ask ≡ leaves 5 offSession [] []
   pub ask-held : (st : State) (r : Register) → asked A (on st true r) m ask ≡ leaves 6 (on st true r) [] []
-  pub ask-linked : (q : Bool) (h : ℕ) (c : Cover) (p : Half) (r : Register)
-      → asked A (on (linked q (link h c p)) false r) m ask ≡ leaves 6 (on (linked q (link h c p)) false r) [] []
+  pub ask-linked : (secured : Bool) (h : ℕ) (c : Cover) (p : Half) (r : Register)
+      → asked A (on (linked secured (link h c p)) false r) m ask ≡ leaves 6 (on (linked secured (link h c p)) false r) [] []
   pub release-off : asked A offSession m release ≡ leaves 5 offSession [] []
   pub release-free : (st : State) (r : Register) → asked A (on st false r) m release ≡ leaves 6 (on st false r) [] []
   pub register-off : asked A offSession m register ≡ leaves 5 offSession [] []
   pub register-free : (st : State) (r : Register) → asked A (on st false r) m register ≡ leaves 6 (on st false r) [] []
 
 -- an SPI transfer c, with the room that it has: 1, 2, 3, 5 and 6
-pub record Transfer (A : Program) (m : List ℕ) (c : Call) (room : List ℕ) : Type 0 where
+pub record TransferRefused (A : Program) (m : List ℕ) (c : Call) (room : List ℕ) : Type 0 where
   pub bad-image : (s : Session) (n : ℕ) → checkOf m ≡ refused n → asked A s m c ≡ leaves n s m room
   pub off : (y : Layout) → checkOf m ≡ good y → asked A offSession m c ≡ leaves 5 offSession m room
   pub pends : (y : Layout) (s : Session) → checkOf m ≡ good y → countIn y m ≢ 0 → asked A s m c ≡ leaves 5 s m room
@@ -207,7 +207,7 @@ abbrev pub BadCount : Layout → ℕ → ℕ → Type 0
 BadCount y at n = (n ≡ 0) ⊎ (255 < n) ⊎ (y .user .words < at + n)
 
 -- 13 and 4 of a read, 13 of a write, where the port is held
-pub record Port (A : Program) (y : Layout) (m : List ℕ) (st : State) (r : Register) : Type 0 where
+pub record PortRefused (A : Program) (y : Layout) (m : List ℕ) (st : State) (r : Register) : Type 0 where
   pub read-count : (at n : ℕ) (room : List ℕ) → BadCount y at n → asked A (on st true r) m (read at n room) ≡ leaves 13 (on st true r) m room
   pub read-room : (at n : ℕ) (room : List ℕ) → 1 ≤ n → n ≤ 255 → at + n ≤ y .user .words → length room < 2 * n
       → asked A (on st true r) m (read at n room) ≡ leaves 4 (on st true r) m room
@@ -220,7 +220,7 @@ pub record Port (A : Program) (y : Layout) (m : List ℕ) (st : State) (r : Regi
 abbrev pub given : List ℕ → ℕ → Air → Air
 given room power a = record { image = a .image; frame = a .frame; bits = a .bits; fresh = a .fresh; room = room; power = power }
 
-pub record Short (A : Program) : Type 0 where
+pub record TooLittle (A : Program) : Type 0 where
   pub room : (a : Air) (s : Session) (other : List ℕ) (enough : ℕ) → let r = hears A (given other enough a) s in
       (r .number ≡ 0) ⊎ (r .number ≡ 10) → 8 * length (a .room) < r .reply → hears A a s ≡ stays 4 a s
   pub power : (y : Layout) (t : Tag) (c : Storing) (s enough : ℕ) → checkOf (t .image) ≡ good y → let r = A t (lasting c enough) in
@@ -231,13 +231,13 @@ pub record Short (A : Program) : Type 0 where
 pub record Refusals (A : Program) : Type 0 where
   pub unready : (a : Air) → Unready A a
   pub unheard : (y : Layout) (a : Air) (st : State) (r : Register) → Idle y (a .image) → Unheard A a st r
-  pub wrong : (y : Layout) (a : Air) (r : Register) → Idle y (a .image) → Wrong A a r
+  pub wrong : (y : Layout) (a : Air) (r : Register) → Idle y (a .image) → OutOfPlace A a r
   pub dropped : (y : Layout) (a : Air) (r : Register) → Idle y (a .image) → Dropped A y a r
-  pub errors : (y : Layout) (a : Air) (r : Register) (q : Bool) (h : ℕ) (c : Cover) → Idle y (a .image) → 6 ≤ length (a .room) → Errors A y a r q h c
+  pub errors : (y : Layout) (a : Air) (r : Register) (secured : Bool) (h : ℕ) (c : Cover) → Idle y (a .image) → 6 ≤ length (a .room) → Errors A y a r secured h c
   pub locks : (y : Layout) (a : Air) (r : Register) (h : ℕ) (c : Cover) → Idle y (a .image) → 6 ≤ length (a .room) → Locks A y a r h c
   pub power-up : (m : List ℕ) (s : Session) (n u : ℕ) → checkOf m ≡ refused n → asked A s m (powerUp u) ≡ leaves n offSession m []
-  pub alone : (m : List ℕ) → Alone A m
-  pub reads : (m : List ℕ) (at n : ℕ) (room : List ℕ) → Transfer A m (read at n room) room
-  pub writes : (m : List ℕ) (at : ℕ) (d : List ℕ) (s : ℕ) → Transfer A m (write at d s) []
-  pub port : (y : Layout) (m : List ℕ) (st : State) (r : Register) → Idle y m → Port A y m st r
-  pub short : Short A
+  pub alone : (m : List ℕ) → NoImageRefused A m
+  pub reads : (m : List ℕ) (at n : ℕ) (room : List ℕ) → TransferRefused A m (read at n room) room
+  pub writes : (m : List ℕ) (at : ℕ) (d : List ℕ) (s : ℕ) → TransferRefused A m (write at d s) []
+  pub port : (y : Layout) (m : List ℕ) (st : State) (r : Register) → Idle y m → PortRefused A y m st r
+  pub short : TooLittle A
