@@ -17,7 +17,7 @@ use Rattle.frames.specs.Frames.{checksumRight}
 use Rattle.replies.specs.Replies.{checked}
 use Rattle.replies.specs.Pack.{filled, packed}
 use Rattle.replies.proofs.Laws.{packed-none}
-use Rattle.stores.specs.Stores.{finished, changeStores, epcCrc, powerStores}
+use Rattle.stores.specs.Stores.{finished, epcCrc, powerStores}
 use Rattle.tag.specs.Port.{numberIn}
 use Rattle.demands.specs.Terms.{Words, Bits, Terms}
 use Rattle.demands.proofs.Rights.{lock-masked}
@@ -78,13 +78,6 @@ register-so true false = refl
 register-so false true = refl
 register-so false false = refl
 
-change-so : (w : ℕ) (a b : Store)
-    → changeStores w (a ∷ b ∷ []) ≡ store (w + 1) (a .at) ∷ store (w + 2) (a .value) ∷ store (w + 3) (b .at) ∷ store (w + 4) (b .value) ∷ store w 2 ∷ a ∷ b ∷ store w 0 ∷ []
-change-so w a b = ap (λ (p : ℕ). list p (w + 1 + 2) (w + 1 + 2 + 1)) (omega arith) ∙ ap (λ (p : ℕ). list (w + 2) p (w + 1 + 2 + 1)) (omega arith) ∙ ap (list (w + 2) (w + 3)) (omega arith)
-  where
-    list : ℕ → ℕ → ℕ → List Store
-    list p q r = store (w + 1) (a .at) ∷ store p (a .value) ∷ store q (b .at) ∷ store r (b .value) ∷ store w 2 ∷ a ∷ b ∷ store w 0 ∷ []
-
 checksum-so : (f : List ℕ) (n : ℕ) → let sum = crcOf (bitsFrom f 0 (n - 16)) in
     (checksumRight f n ≡ true → fieldAt f (n - 16) 16 ≡ sum) × (fieldAt f (n - 16) 16 ≡ sum → checksumRight f n ≡ true)
 unfolding checksumRight
@@ -99,9 +92,12 @@ terms-so =
       banks = λ y. (refl, refl, refl, refl);
       blocks = blocks-so;
       work = λ y w e. omega (arith, e);
-      length = λ pc. refl;
+      pc-length = λ pc. refl;
       pairs = λ lock k. (refl, refl);
       locked = lock-masked;
-      change = change-so;
+      unchanged = λ w. refl;
+      change = λ w s ss. refl;
+      stage = λ a s ss. refl;
+      staged-all = λ a. refl;
       register = λ r. register-so (r .unwritten) (r .killed);
     }

@@ -7,7 +7,7 @@ use mathlib.Core.Bool.{Bool, true, false}
 use mathlib.Core.List.{List, []}
 use lib.Bits.{bitXor}
 use lib.ListN.{length}
-use Rattle.bits.specs.Bits.{bitAt, fieldAt}
+use Rattle.bits.specs.Bits.{bitAt}
 use Rattle.image.specs.declared.Layout.{Layout}
 use Rattle.image.specs.Layout.{blocksIn, pairsIn}
 use Rattle.image.specs.Content.{lockWord, lengthOf, permalock, countIn}

@@ -4,6 +4,7 @@ use Prim.Native.Nat.{ℕ, _+_, _-_, _*_, _/_, _%_, _≤_, _<_}
 use mathlib.Core.Path.{_≡_}
 use mathlib.Core.Bool.{true, cond}
 use mathlib.Core.List.{List, [], _∷_, _++_}
+use lib.ListN.{length}
 use Rattle.bits.specs.Words.{wordAt, Store, store, after}
 use Rattle.bits.specs.Bits.{bitsOf, fieldAt, bitsFrom, wordsBits}
 use Rattle.crc.specs.Crc.{crcOf}
@@ -16,7 +17,7 @@ use Rattle.replies.specs.Replies.{replyBits}
 use Rattle.replies.specs.Pack.{packed}
 use Rattle.rights.specs.Rights.{bankOf, pwdBit, permaBit, lockedTo}
 use Rattle.states.specs.Commands.{killWord, accessWord}
-use Rattle.stores.specs.Stores.{changeStores, epcCrc, powerStores}
+use Rattle.stores.specs.Stores.{staged, changeStores, epcCrc, powerStores}
 use Rattle.tag.specs.declared.Register.{Register}
 use Rattle.tag.specs.Port.{numberIn}
 use Rattle.demands.specs.Facts.{bitIn, Masked}
@@ -65,12 +66,14 @@ pub record Terms : Type 0 where
   -- a block exists where a word of USER begins it, short as it may be
   pub blocks : (y : Layout) (b : ℕ) → 1 ≤ y .block → (b < blocksIn y → b * y .block < y .user .words) × (b * y .block < y .user .words → b < blocksIn y)
   pub work : (y : Layout) (w : ℕ) → y .work .words ≡ 1 + 2 * w → pairsIn y ≡ w
-  pub length : (pc : ℕ) → lengthOf pc ≡ pc / 2048
+  pub pc-length : (pc : ℕ) → lengthOf pc ≡ pc / 2048
   -- pair k of the lock word, pwd before permalock, from the top of its ten bits; and the lock word after a Lock
   pub pairs : (lock k : ℕ) → (pwdBit lock k ≡ bitIn lock (9 - 2 * k)) × (permaBit lock k ≡ bitIn lock (8 - 2 * k))
   pub locked : (old mask action : ℕ) → Masked old mask action (lockedTo old mask action)
-  -- a change of two words: the pairs, the count, the words, the count 0
-  pub change : (w : ℕ) (a b : Store)
-      → changeStores w (a ∷ b ∷ [])
-      ≡ store (w + 1) (a .at) ∷ store (w + 2) (a .value) ∷ store (w + 3) (b .at) ∷ store (w + 4) (b .value) ∷ store w 2 ∷ a ∷ b ∷ store w 0 ∷ []
+  -- a change: each word's pair, offset before value; the count, the words, the count 0; nothing where there is no word
+  pub unchanged : (w : ℕ) → changeStores w [] ≡ []
+  pub change : (w : ℕ) (s : Store) (ss : List Store)
+      → changeStores w (s ∷ ss) ≡ (staged (w + 1) (s ∷ ss) ++ (store w (length (s ∷ ss)) ∷ [])) ++ ((s ∷ ss) ++ (store w 0 ∷ []))
+  pub stage : (a : ℕ) (s : Store) (ss : List Store) → staged a (s ∷ ss) ≡ store a (s .at) ∷ store (a + 1) (s .value) ∷ staged (a + 2) ss
+  pub staged-all : (a : ℕ) → staged a [] ≡ []
   pub register : (r : Register) → numberIn r ≡ cond (r .unwritten) 2 0 + cond (r .killed) 1 0
