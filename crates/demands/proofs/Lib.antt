@@ -6,6 +6,7 @@ pub mod Cuts
 pub mod Runs
 pub mod Whole
 pub mod Rights
+pub mod Fields
 pub mod Terms
 pub mod Codes
 pub mod Tables

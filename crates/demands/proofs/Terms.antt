@@ -21,6 +21,7 @@ use Rattle.stores.specs.Stores.{finished, epcCrc, powerStores}
 use Rattle.tag.specs.Port.{numberIn}
 use Rattle.demands.specs.Terms.{Words, Bits, Terms}
 use Rattle.demands.proofs.Rights.{lock-masked}
+use Rattle.demands.proofs.Fields.{fields-so}
 
 power-list : (y : Layout) (m : List ℕ) (ss : List Store) → pending y m ≡ ss
     → powerStores y m ≡ finished (y .work .at) ss ++ (store (y .epc .at) (epcCrc y (after m (finished (y .work .at) ss))) ∷ [])
@@ -88,6 +89,7 @@ terms-so =
     record {
       words = words-so;
       bits = bits-so;
+      fields = fields-so;
       checksum = checksum-so;
       banks = λ y. (refl, refl, refl, refl);
       blocks = blocks-so;

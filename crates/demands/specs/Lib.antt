@@ -1,6 +1,7 @@
 pub mod Calls
 pub mod Demands
 pub mod Facts
+pub mod Fields
 pub mod Terms
 pub mod Commands
 pub mod Worked

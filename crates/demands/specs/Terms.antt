@@ -21,6 +21,7 @@ use Rattle.stores.specs.Stores.{staged, changeStores, epcCrc, powerStores}
 use Rattle.tag.specs.declared.Register.{Register}
 use Rattle.tag.specs.Port.{numberIn}
 use Rattle.demands.specs.Facts.{bitIn, Masked}
+use Rattle.demands.specs.Fields.{Fields}
 
 -- bits with the CRC-16 over all of them behind them
 abbrev pub sealed : List ℕ → List ℕ
@@ -59,6 +60,7 @@ pub record Bits (m : List ℕ) : Type 0 where
 pub record Terms : Type 0 where
   pub words : (y : Layout) (m : List ℕ) → Words y m
   pub bits : (m : List ℕ) → Bits m
+  pub fields : Fields
   -- a frame's last 16 bits are the CRC-16 of those before them
   pub checksum : (f : List ℕ) (n : ℕ) → let sum = crcOf (bitsFrom f 0 (n - 16)) in
       (checksumRight f n ≡ true → fieldAt f (n - 16) 16 ≡ sum) × (fieldAt f (n - 16) 16 ≡ sum → checksumRight f n ≡ true)

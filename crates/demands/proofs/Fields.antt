@@ -1,0 +1,169 @@
+-- What a frame's bits say, from the definitions of `frames` and `ebv`. Assumes nothing.
+use Prim.Native.Nat.{ℕ, _+_, _-_, _*_, _≤_, _<_}
+use mathlib.Core.Path.{_≡_, refl, ap, ap₂, _∙_}
+use mathlib.Core.Logic.{_⊎_, inl, inr}
+use mathlib.Core.Bool.{Bool, true, false, cond, _||_}
+use mathlib.Core.List.{List, [], _∷_}
+use native.Mathlib.Omega.{arith}
+use lib.Dec.{eqb, ltb}
+use lib.ListN.{length}
+use borrow.Author.Tests.{eq-eqb, ne-eqb, lt-ltb, le-ltb}
+use Rattle.bits.specs.Bits.{fieldAt}
+use Rattle.bits.specs.First.{first}
+use Rattle.ebv.specs.Ebv.{Read, groups, pointerAt}
+use Rattle.ebv.specs.Ebv as pointer
+use Rattle.frames.specs.declared.Order.{Order}
+use Rattle.frames.specs.declared.Order.the-variants as order
+use Rattle.frames.specs.Message.{Message}
+use Rattle.frames.specs.Message as heard
+use Rattle.frames.specs.Frames.{exactly, pointed, span, nakOf, reqRnOf, readOf, writeOf, killOf, lockOf, accessOf, blockWriteOf, blockEraseOf, permalockOf, heardOf}
+use Rattle.demands.specs.Fields.{Takes, After, Coded, Groups, Fields}
+
+abbrev table : List ℕ → ℕ → ℕ → Message
+table f n k =
+    first
+    ((nakOf n, eqb k 0xC0)
+    ∷ (reqRnOf f n, eqb k 0xC1)
+    ∷ (readOf f n, eqb k 0xC2)
+    ∷ (writeOf f n, eqb k 0xC3)
+    ∷ (killOf f n, eqb k 0xC4)
+    ∷ (lockOf f n, eqb k 0xC5)
+    ∷ (accessOf f n, eqb k 0xC6)
+    ∷ (blockWriteOf f n, eqb k 0xC7)
+    ∷ (blockEraseOf f n, eqb k 0xC8)
+    ∷ (permalockOf f n, eqb k 0xC9)
+    ∷ [])
+    (heard.refused 7)
+
+module _ (f : List ℕ) (n : ℕ) where
+  takes : (k : ℕ) (o : Order) → heardOf f n ≡ exactly f n k o → Takes f n k o
+  takes k o h = (
+    λ e. h
+        ∙ ap (λ (t : Bool). cond t (heard.said (record { number = fieldAt f (n - 32) 16; order = o })) (heard.refused 7)) (eq-eqb n k e)
+        ∙ ap (λ (x : ℕ). heard.said (record { number = fieldAt f (x - 32) 16; order = o })) e,
+    λ d. h ∙ ap (λ (t : Bool). cond t (heard.said (record { number = fieldAt f (n - 32) 16; order = o })) (heard.refused 7)) (ne-eqb n k d),
+  )
+
+  follows : (i : ℕ) (g : ℕ → ℕ → Message) (P : ℕ → ℕ → Type 0) → heardOf f n ≡ pointed (pointerAt f n i) g → ((p e : ℕ) → heardOf f n ≡ g p e → P p e) → After f n i P
+  follows i g P h q = (λ p e d. q p e (h ∙ ap (λ (r : Read). pointed r g) d), λ d. h ∙ ap (λ (r : Read). pointed r g) d)
+
+  module _ (least : 8 ≤ n) (most : n ≤ 8 * length f) where
+    by-code : (k : ℕ) → fieldAt f 0 8 ≡ k → heardOf f n ≡ table f n k
+    unfolding heardOf
+    by-code k e = ap₂ (λ (s t : Bool). cond (s || t) (heard.refused 7) (table f n (fieldAt f 0 8))) (le-ltb (8 * length f) n most) (le-ltb n 8 least) ∙ ap (table f n) e
+
+    -- the bit of a BlockPermalock
+    permalocks : (t : Bool) → eqb (fieldAt f 16 1) 0 ≡ t → fieldAt f 0 8 ≡ 0xC9 → heardOf f n
+        ≡ pointed (pointerAt f n 19)
+        (λ p e.
+        let s = span (fieldAt f 17 2) p (fieldAt f (19 + 8 * e) 8) in
+        cond t (exactly f n (59 + 8 * e) (order.ReadPermalock (fieldAt f 8 8) s))
+        (exactly f n (59 + 8 * e + 16 * s .count) (order.Permalock (fieldAt f 8 8) s (27 + 8 * e))))
+    permalocks t e c =
+        by-code 0xC9 c
+        ∙ ap
+        (λ (t : Bool).
+        pointed (pointerAt f n 19)
+        (λ p e.
+        let s = span (fieldAt f 17 2) p (fieldAt f (19 + 8 * e) 8) in
+        cond t (exactly f n (59 + 8 * e) (order.ReadPermalock (fieldAt f 8 8) s))
+        (exactly f n (59 + 8 * e + 16 * s .count) (order.Permalock (fieldAt f 8 8) s (27 + 8 * e))))) e
+
+    unknown-so : (k : ℕ) → fieldAt f 0 8 ≡ k → (k < 0xC0) ⊎ (0xC9 < k) → heardOf f n ≡ heard.refused 7
+    unknown-so k e d =
+        by-code k e
+        ∙ rw (no d 0xC0 (omega arith) (omega arith), no d 0xC1 (omega arith) (omega arith), no d 0xC2 (omega arith) (omega arith), no d 0xC3 (omega arith) (omega arith), no d 0xC4 (omega arith) (omega arith), no d 0xC5 (omega arith) (omega arith), no d 0xC6 (omega arith) (omega arith), no d 0xC7 (omega arith) (omega arith), no d 0xC8 (omega arith) (omega arith), no d 0xC9 (omega arith) (omega arith))
+      where
+        no : (k < 0xC0) ⊎ (0xC9 < k) → (c : ℕ) → 0xC0 ≤ c → c ≤ 0xC9 → eqb k c ≡ false
+        no (inl l) c a b = ne-eqb k c (λ z. omega (arith, l, a, z))
+        no (inr l) c a b = ne-eqb k c (λ z. omega (arith, l, b, z))
+
+    coded-so : Coded f n
+    coded-so =
+        record {
+          nak = λ c. (
+            λ e. by-code 0xC0 c ∙ ap (λ (t : Bool). cond t heard.nak (heard.refused 7)) (eq-eqb n 8 e),
+            λ d. by-code 0xC0 c ∙ ap (λ (t : Bool). cond t heard.nak (heard.refused 7)) (ne-eqb n 8 d),
+          );
+          req-rn = λ c. takes _ _ (by-code 0xC1 c);
+          read = λ c. follows 10 _ _ (by-code 0xC2 c) (λ p e h. takes _ _ h);
+          write = λ c. follows 10 _ _ (by-code 0xC3 c) (λ p e h. takes _ _ h);
+          kill = λ c. takes _ _ (by-code 0xC4 c);
+          lock = λ c. takes _ _ (by-code 0xC5 c);
+          access = λ c. takes _ _ (by-code 0xC6 c);
+          block-write = λ c. follows 10 _ _ (by-code 0xC7 c) (λ p e h. takes _ _ h);
+          block-erase = λ c. follows 10 _ _ (by-code 0xC8 c) (λ p e h. takes _ _ h);
+          permalock-read = λ c z. follows 19 _ _ (permalocks true (eq-eqb (fieldAt f 16 1) 0 z) c) (λ p e h. takes _ _ h);
+          permalock = λ c z. follows 19 _ _ (permalocks false (ne-eqb (fieldAt f 16 1) 0 z) c) (λ p e h. takes _ _ h);
+          unknown = λ d. unknown-so (fieldAt f 0 8) refl d;
+        }
+
+  -- a pointer's groups, by the bounds and the first bit of each
+  module _ (i : ℕ) where
+    third : Bool → Bool → ℕ → Read
+    third s t acc = cond s (pointer.refused 7) (cond t (pointer.whole (acc * 128 + fieldAt f (i + 16) 8) 3) (pointer.refused 7))
+
+    second : Bool → Bool → Read → ℕ → Read
+    second s t r acc = cond s (pointer.refused 7) (cond t (pointer.whole (acc * 128 + fieldAt f (i + 8) 8) 2) r)
+
+    by-groups : pointerAt f n i
+        ≡ cond (ltb n (i + 8)) (pointer.refused 7)
+        (cond (ltb (fieldAt f i 8) 128) (pointer.whole (fieldAt f i 8) 1)
+        (second (ltb n (i + 16)) (ltb (fieldAt f (i + 8) 8) 128)
+        (third (ltb n (i + 24)) (ltb (fieldAt f (i + 16) 8) 128) ((fieldAt f i 8 - 128) * 128 + (fieldAt f (i + 8) 8 - 128))) (fieldAt f i 8 - 128)))
+    unfolding pointerAt second third
+    by-groups =
+        let a : i + 0 ≡ i = omega arith in
+        let b : i + 8 + 8 ≡ i + 16 = omega arith in
+        let c : i + 16 + 8 ≡ i + 24 = omega arith in
+        let d : (x : ℕ) → 0 + x ≡ x = λ x. omega arith in
+        rw (a, b, c, d (fieldAt f i 8), d (fieldAt f i 8 - 128))
+
+    groups-so : Groups f n i
+    unfolding second third
+    groups-so =
+        record {
+          one = λ a p. by-groups ∙ rw (le-ltb n (i + 8) a, lt-ltb (fieldAt f i 8) 128 p);
+          two = λ a p q.
+              by-groups
+              ∙ rw (le-ltb n (i + 8) (omega (arith, a)), le-ltb (fieldAt f i 8) 128 p, le-ltb n (i + 16) a, lt-ltb (fieldAt f (i + 8) 8) 128 q);
+          three = λ a p q r.
+              by-groups
+              ∙ rw (le-ltb n (i + 8) (omega (arith, a)), le-ltb (fieldAt f i 8) 128 p, le-ltb n (i + 16) (omega (arith, a)), le-ltb (fieldAt f (i + 8) 8) 128 q, le-ltb n (i + 24) a, lt-ltb (fieldAt f (i + 16) 8) 128 r);
+          four = λ p q r.
+              by-groups
+              ∙ rw (le-ltb (fieldAt f i 8) 128 p, le-ltb (fieldAt f (i + 8) 8) 128 q, le-ltb (fieldAt f (i + 16) 8) 128 r)
+              (any (ltb n (i + 8)) (ltb n (i + 16)) (ltb n (i + 24)));
+          short = λ l. by-groups ∙ rw (lt-ltb n (i + 8) l);
+          short-two = λ l p. by-groups ∙ rw (le-ltb (fieldAt f i 8) 128 p, lt-ltb n (i + 16) l) (any (ltb n (i + 8)) true true);
+          short-three = λ l p q.
+              by-groups
+              ∙ rw (le-ltb (fieldAt f i 8) 128 p, le-ltb (fieldAt f (i + 8) 8) 128 q, lt-ltb n (i + 24) l)
+              (any (ltb n (i + 8)) (ltb n (i + 16)) true);
+        }
+      where
+        any : (s t u : Bool) → cond s (pointer.refused 7) (cond t (pointer.refused 7) (cond u (pointer.refused 7) (pointer.refused 7))) ≡ pointer.refused 7
+        any true t u = refl
+        any false true u = refl
+        any false false true = refl
+        any false false false = refl
+
+pub fields-so : Fields
+unfolding heardOf
+fields-so =
+    record {
+      coded = coded-so;
+      groups = groups-so;
+      none = λ f n d. none-so f n d;
+    }
+  where
+    none-so : (f : List ℕ) (n : ℕ) → (n < 8) ⊎ (8 * length f < n) → heardOf f n ≡ heard.refused 7
+    none-so f n (inl l) = first-or (ltb (8 * length f) n) (lt-ltb n 8 l)
+      where
+        first-or : (s : Bool) → ltb n 8 ≡ true → heardOf f n ≡ heard.refused 7
+        first-or s e = go (ltb (8 * length f) n) refl
+          where
+            go : (s : Bool) → ltb (8 * length f) n ≡ s → heardOf f n ≡ heard.refused 7
+            go true q = rw q
+            go false q = rw (q, e)
+    none-so f n (inr l) = rw (lt-ltb (8 * length f) n l)
