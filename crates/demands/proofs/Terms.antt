@@ -1,25 +1,29 @@
 -- The terms of the demands come to what the rules say. Assumes nothing.
 use Prim.Native.Nat.{ℕ, _+_, _-_, _*_, _/_, _≤_, _<_}
 use mathlib.Core.Path.{_≡_, refl, ap, ap₂, _∙_}
-use mathlib.Core.Bool.{Bool, true, false, cond}
+use mathlib.Core.Logic.{_⊎_, inl, inr, ⊎-elim}
+use mathlib.Core.Bool.{Bool, true, false, cond, _||_}
 use mathlib.Core.List.{List, [], _∷_, _++_}
 use native.Mathlib.Omega.{arith}
 use native.Mathlib.Nat.{le-div-iff-mul-le}
-use borrow.Author.Tests.{eqb-true, eq-eqb}
+use lib.Dec.{leb, ltb}
+use borrow.Author.Tests.{eqb-true, eq-eqb, leb-true, ltb-true}
 use Rattle.bits.specs.Words.{wordAt, Store, store, after}
 use Rattle.bits.specs.Bits.{fieldAt, bitsFrom}
 use Rattle.bits.specs.Below.{below}
+use Rattle.bits.proofs.Below.{and-left, and-right, or-cases}
 use Rattle.crc.specs.Crc.{crcOf}
 use Rattle.image.specs.declared.Layout.{Layout}
-use Rattle.image.specs.Layout.{blocksIn}
-use Rattle.image.specs.Content.{pairAt, pending}
+use Rattle.image.specs.declared.Section.{Section}
+use Rattle.image.specs.Layout.{layoutOf, blocksIn}
+use Rattle.image.specs.Content.{pairAt, pending, inside, mayGo}
 use Rattle.frames.specs.Frames.{checksumRight}
 use Rattle.replies.specs.Replies.{checked}
 use Rattle.replies.specs.Pack.{filled, packed}
 use Rattle.replies.proofs.Laws.{packed-none}
 use Rattle.stores.specs.Stores.{finished, epcCrc, powerStores}
 use Rattle.tag.specs.Port.{numberIn}
-use Rattle.demands.specs.Terms.{Words, Bits, Terms}
+use Rattle.demands.specs.Terms.{In, Headed, Words, Bits, Terms}
 use Rattle.demands.proofs.Rights.{lock-masked}
 use Rattle.demands.proofs.Fields.{fields-so}
 
@@ -84,9 +88,30 @@ checksum-so : (f : List ℕ) (n : ℕ) → let sum = crcOf (bitsFrom f 0 (n - 16
 unfolding checksumRight
 checksum-so f n = (eqb-true _ _, eq-eqb _ _)
 
+header-so : (m : List ℕ) → Headed m (layoutOf m)
+unfolding layoutOf
+header-so m = record { block = refl; status = refl; reserved = refl; epc = refl; tid = refl; user = refl; perma = refl; work = refl }
+
+in-so : (s : Section) (o : ℕ) → inside s o ≡ true → In s o
+in-so s o e = (leb-true _ _ (and-left (leb (s .at) o) (ltb o (s .at + s .words)) e), ltb-true _ _ (and-right (leb (s .at) o) (ltb o (s .at + s .words)) e))
+
+goes-so : (y : Layout) (o : ℕ) → mayGo y o ≡ true → In (y .status) o ⊎ In (y .reserved) o ⊎ In (y .epc) o ⊎ In (y .user) o ⊎ In (y .perma) o
+goes-so y o e =
+    let a = inside (y .status) o in
+    let b = inside (y .reserved) o in
+    let c = inside (y .epc) o in
+    let d = inside (y .user) o in
+    let f = inside (y .perma) o in
+    ⊎-elim
+    (λ h. ⊎-elim
+    (λ h. ⊎-elim (λ h. ⊎-elim (λ h. inl (in-so (y .status) o h)) (λ h. inr (inl (in-so (y .reserved) o h))) (or-cases a b h)) (λ h. inr (inr (inl (in-so (y .epc) o h)))) (or-cases (a || b) c h))
+    (λ h. inr (inr (inr (inl (in-so (y .user) o h))))) (or-cases (a || b || c) d h)) (λ h. inr (inr (inr (inr (in-so (y .perma) o h))))) (or-cases (a || b || c || d) f e)
+
 pub terms-so : Terms
 terms-so =
     record {
+      header = header-so;
+      goes = goes-so;
       words = words-so;
       bits = bits-so;
       fields = fields-so;

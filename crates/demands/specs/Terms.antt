@@ -2,6 +2,7 @@
 -- Assumes nothing.
 use Prim.Native.Nat.{ℕ, _+_, _-_, _*_, _/_, _%_, _≤_, _<_}
 use mathlib.Core.Path.{_≡_}
+use mathlib.Core.Logic.{_⊎_}
 use mathlib.Core.Bool.{true, cond}
 use mathlib.Core.List.{List, [], _∷_, _++_}
 use lib.ListN.{length}
@@ -9,8 +10,9 @@ use Rattle.bits.specs.Words.{wordAt, Store, store, after}
 use Rattle.bits.specs.Bits.{bitsOf, fieldAt, bitsFrom, wordsBits}
 use Rattle.crc.specs.Crc.{crcOf}
 use Rattle.image.specs.declared.Layout.{Layout}
-use Rattle.image.specs.Layout.{blocksIn, pairsIn}
-use Rattle.image.specs.Content.{lockWord, killedWord, lengthOf, pcWord, permalock, countIn, pending}
+use Rattle.image.specs.declared.Section.{Section}
+use Rattle.image.specs.Layout.{layoutOf, blocksIn, pairsIn}
+use Rattle.image.specs.Content.{lockWord, killedWord, lengthOf, pcWord, permalock, countIn, pending, mayGo}
 use Rattle.frames.specs.Frames.{checksumRight}
 use Rattle.replies.specs.declared.Reply.the-variants as reply
 use Rattle.replies.specs.Replies.{replyBits}
@@ -57,7 +59,28 @@ pub record Bits (m : List ℕ) : Type 0 where
       → packed (b ∷ c ∷ d ∷ e ∷ f ∷ g ∷ h ∷ i ∷ bs) (x ∷ room) ≡ (128 * b + 64 * c + 32 * d + 16 * e + 8 * f + 4 * g + 2 * h + i) ∷ packed bs room
   pub last : (b x : ℕ) (room : List ℕ) → packed (b ∷ []) (x ∷ room) ≡ 128 * b ∷ room
 
+-- the section of n words from word o on; and a word in a section
+abbrev pub section : ℕ → ℕ → Section
+section o n = record { at = o; words = n }
+
+abbrev pub In : Section → ℕ → Type 0
+In s o = (s .at ≤ o) × (o < s .at + s .words)
+
+-- the header: the block size, then offset and count of each section
+pub record Headed (m : List ℕ) (y : Layout) : Type 0 where
+  pub block : y .block ≡ wordAt m 1
+  pub status : y .status ≡ section (wordAt m 2) (wordAt m 3)
+  pub reserved : y .reserved ≡ section (wordAt m 4) (wordAt m 5)
+  pub epc : y .epc ≡ section (wordAt m 6) (wordAt m 7)
+  pub tid : y .tid ≡ section (wordAt m 8) (wordAt m 9)
+  pub user : y .user ≡ section (wordAt m 10) (wordAt m 11)
+  pub perma : y .perma ≡ section (wordAt m 12) (wordAt m 13)
+  pub work : y .work ≡ section (wordAt m 14) (wordAt m 15)
+
 pub record Terms : Type 0 where
+  pub header : (m : List ℕ) → Headed m (layoutOf m)
+  -- pending values go to these sections and no other
+  pub goes : (y : Layout) (o : ℕ) → mayGo y o ≡ true → In (y .status) o ⊎ In (y .reserved) o ⊎ In (y .epc) o ⊎ In (y .user) o ⊎ In (y .perma) o
   pub words : (y : Layout) (m : List ℕ) → Words y m
   pub bits : (m : List ℕ) → Bits m
   pub fields : Fields
