@@ -127,4 +127,7 @@ terms-so =
       stage = λ a s ss. refl;
       staged-all = λ a. refl;
       register = λ r. register-so (r .unwritten) (r .killed);
+      cleared = refl;
+      off = refl;
+      under = λ st held r. refl;
     }

@@ -3,7 +3,7 @@
 use Prim.Native.Nat.{ℕ, _+_, _-_, _*_, _/_, _%_, _≤_, _<_}
 use mathlib.Core.Path.{_≡_}
 use mathlib.Core.Logic.{_⊎_}
-use mathlib.Core.Bool.{true, cond}
+use mathlib.Core.Bool.{Bool, true, false, cond}
 use mathlib.Core.List.{List, [], _∷_, _++_}
 use lib.ListN.{length}
 use Rattle.bits.specs.Words.{wordAt, Store, store, after}
@@ -19,8 +19,11 @@ use Rattle.replies.specs.Replies.{replyBits}
 use Rattle.replies.specs.Pack.{packed}
 use Rattle.rights.specs.Rights.{bankOf, pwdBit, permaBit, lockedTo}
 use Rattle.states.specs.Commands.{killWord, accessWord}
+use Rattle.states.specs.declared.State.{State}
 use Rattle.stores.specs.Stores.{staged, changeStores, epcCrc, powerStores}
 use Rattle.tag.specs.declared.Register.{Register}
+use Rattle.tag.specs.declared.Power.the-variants as power
+use Rattle.tag.specs.Session.{offSession, on, clear}
 use Rattle.tag.specs.Port.{numberIn}
 use Rattle.demands.specs.Facts.{bitIn, Masked}
 use Rattle.demands.specs.Fields.{Fields}
@@ -102,3 +105,7 @@ pub record Terms : Type 0 where
   pub stage : (a : ℕ) (s : Store) (ss : List Store) → staged a (s ∷ ss) ≡ store a (s .at) ∷ store (a + 1) (s .value) ∷ staged (a + 2) ss
   pub staged-all : (a : ℕ) → staged a [] ≡ []
   pub register : (r : Register) → numberIn r ≡ cond (r .unwritten) 2 0 + cond (r .killed) 1 0
+  pub cleared : clear ≡ record { unwritten = false; killed = false }
+  -- a session is Off, or it is under power with a state, the port held or free, and a register
+  pub off : offSession ≡ record { power = power.Off }
+  pub under : (st : State) (held : Bool) (r : Register) → on st held r ≡ record { power = power.On (record { state = st; held = held; register = r }) }
