@@ -62,6 +62,10 @@ linked secured k = cond secured (state.Secured k) (state.Open k)
 abbrev pub link : ℕ → Cover → Half → Link
 link h c p = record { handle = h; cover = c; half = p }
 
+-- no cover number and no half waiting
+abbrev pub bare : ℕ → Link
+bare h = link h cover.Nothing half.Nothing
+
 -- answer 0: the state st, the reply rp and the words ws
 abbrev pub done : Layout → Air → Register → State → Reply → List Store → Result
 done y a r st rp ws =
@@ -112,27 +116,39 @@ pub record Radio (A : Program) (y : Layout) (a : Air) (r : Register) : Type 0 wh
   -- Req_RN with the admission number: the fresh word is the handle, the state Open if the access password is nonzero, else Secured
   pub req-rn : (n : ℕ) → accessWord y (a .image) 0 ≡ 0 → accessWord y (a .image) 1 ≡ 0
       → Does A y a r n order.ReqRn (state.Acknowledged n)
-      (record { state = state.Secured (link (a .fresh) cover.Nothing half.Nothing); reply = reply.Number (a .fresh); words = [] })
+      (record { state = state.Secured (bare (a .fresh)); reply = reply.Number (a .fresh); words = [] })
   pub req-rn-open : (n : ℕ) → (accessWord y (a .image) 0 ≢ 0) ⊎ (accessWord y (a .image) 1 ≢ 0)
       → Does A y a r n order.ReqRn (state.Acknowledged n)
-      (record { state = state.Open (link (a .fresh) cover.Nothing half.Nothing); reply = reply.Number (a .fresh); words = [] })
+      (record { state = state.Open (bare (a .fresh)); reply = reply.Number (a .fresh); words = [] })
   -- Req_RN with the handle: the fresh word is the cover number
   pub req-rn-cover : (secured : Bool) (h : ℕ) (c : Cover) (p : Half)
       → Does A y a r h order.ReqRn (linked secured (link h c p))
-      (record { state = linked secured (link h (cover.Number (a .fresh)) p); reply = reply.Number (a .fresh); words = [] })
+      (record {
+        state = linked secured (link h (cover.Number (a .fresh)) p);
+        reply = reply.Number (a .fresh);
+        words = [];
+      })
   -- Read: k words, where nothing is against it: those that it asks for, or with WordCount 0 all to the bank's end
   pub read : (secured : Bool) (h : ℕ) (c : Cover) (b p n k : ℕ) → Readable y (a .image) secured b p n
       → ((1 ≤ n) × (k ≡ n)) ⊎ ((n ≡ 0) × (p + k ≡ bankOf y b .words))
       → Does A y a r h (order.Read (span b p n)) (linked secured (link h c half.Nothing))
-      (record { state = linked secured (link h cover.Nothing half.Nothing); reply = reply.Words (bankOf y b .at + p) k h; words = [] })
+      (record { state = linked secured (bare h); reply = reply.Words (bankOf y b .at + p) k h; words = [] })
   -- Write: the word without its cover, which is used up
   pub write : (secured : Bool) (h c : ℕ) (b p w : ℕ) → Writable y (a .image) secured b p 1 (bitXor w c)
       → Does A y a r h (order.Write (span b p 1) w) (linked secured (link h (cover.Number c) half.Nothing))
-      (record { state = linked secured (link h cover.Nothing half.Nothing); reply = reply.Success h; words = store (bankOf y b .at + p) (bitXor w c) ∷ [] })
+      (record {
+        state = linked secured (bare h);
+        reply = reply.Success h;
+        words = store (bankOf y b .at + p) (bitXor w c) ∷ [];
+      })
   -- Kill, the first half: it waits, uncovered, where the kill password is nonzero
   pub kill-first : (secured : Bool) (h c w : ℕ) → (killWord y (a .image) 0 ≢ 0) ⊎ (killWord y (a .image) 1 ≢ 0)
       → Does A y a r h (order.Kill w) (linked secured (link h (cover.Number c) half.Nothing))
-      (record { state = linked secured (link h cover.Nothing (half.Kill (bitXor w c))); reply = reply.Number h; words = [] })
+      (record {
+        state = linked secured (link h cover.Nothing (half.Kill (bitXor w c)));
+        reply = reply.Number h;
+        words = [];
+      })
   -- Kill, the second: where both are the password's, killed is stored as 1
   pub kill-second : (secured : Bool) (h c w up : ℕ) → up ≡ killWord y (a .image) 0 → bitXor w c ≡ killWord y (a .image) 1
       → Does A y a r h (order.Kill w) (linked secured (link h (cover.Number c) (half.Kill up)))
@@ -140,33 +156,54 @@ pub record Radio (A : Program) (y : Layout) (a : Air) (r : Register) : Type 0 wh
   -- Lock, in Secured: the masked bits of the lock word are the action's
   pub lock : (h : ℕ) (c : Cover) (mask action : ℕ) → Lockable y (a .image) mask action
       → Does A y a r h (order.Lock mask action) (state.Secured (link h c half.Nothing))
-      (record { state = state.Secured (link h cover.Nothing half.Nothing); reply = reply.Success h; words = store (y .status .at) (lockedTo (lockWord y (a .image)) mask action) ∷ [] })
+      (record {
+        state = state.Secured (bare h);
+        reply = reply.Success h;
+        words = store (y .status .at) (lockedTo (lockWord y (a .image)) mask action) ∷ [];
+      })
   -- Access, the first half, and the second where both are the password's
   pub access-first : (secured : Bool) (h c w : ℕ)
       → Does A y a r h (order.Access w) (linked secured (link h (cover.Number c) half.Nothing))
-      (record { state = linked secured (link h cover.Nothing (half.Access (bitXor w c))); reply = reply.Number h; words = [] })
+      (record {
+        state = linked secured (link h cover.Nothing (half.Access (bitXor w c)));
+        reply = reply.Number h;
+        words = [];
+      })
   pub access-second : (secured : Bool) (h c w up : ℕ) → up ≡ accessWord y (a .image) 0 → bitXor w c ≡ accessWord y (a .image) 1
       → Does A y a r h (order.Access w) (linked secured (link h (cover.Number c) (half.Access up)))
-      (record { state = state.Secured (link h cover.Nothing half.Nothing); reply = reply.Number h; words = [] })
+      (record { state = state.Secured (bare h); reply = reply.Number h; words = [] })
   -- BlockWrite: the words of the frame
   pub block-write : (secured : Bool) (h : ℕ) (c : Cover) (b p n at : ℕ) → 1 ≤ n
       → Writable y (a .image) secured b p n (pcSent a at p)
       → Does A y a r h (order.BlockWrite (span b p n) at) (linked secured (link h c half.Nothing))
-      (record { state = linked secured (link h cover.Nothing half.Nothing); reply = reply.Success h; words = wordsTo (bankOf y b .at + p) (a .frame) at n })
+      (record {
+        state = linked secured (bare h);
+        reply = reply.Success h;
+        words = wordsTo (bankOf y b .at + p) (a .frame) at n;
+      })
   -- BlockErase: zeros
   pub block-erase : (secured : Bool) (h : ℕ) (c : Cover) (b p n : ℕ) → 1 ≤ n → Writable y (a .image) secured b p n 0
       → Does A y a r h (order.BlockErase (span b p n)) (linked secured (link h c half.Nothing))
-      (record { state = linked secured (link h cover.Nothing half.Nothing); reply = reply.Success h; words = below (λ j. store (bankOf y b .at + p + j) 0) n })
+      (record {
+        state = linked secured (bare h);
+        reply = reply.Success h;
+        words = below (λ j. store (bankOf y b .at + p + j) 0) n;
+      })
   -- BlockPermalock that reads: PERMA words
   pub permalock-read : (h : ℕ) (c : Cover) (p n : ℕ) → 1 ≤ n → p + n ≤ y .perma .words
       → Does A y a r h (order.ReadPermalock 0 (span 3 p n)) (state.Secured (link h c half.Nothing))
-      (record { state = state.Secured (link h cover.Nothing half.Nothing); reply = reply.Words (y .perma .at + p) n h; words = [] })
+      (record { state = state.Secured (bare h); reply = reply.Words (y .perma .at + p) n h; words = [] })
   -- and one that locks: masked bits are added
   pub permalock : (h : ℕ) (c : Cover) (p n at : ℕ) → 1 ≤ n → PermaLockable y (a .image) p n (a .frame) at
       → Does A y a r h (order.Permalock 0 (span 3 p n) at) (state.Secured (link h c half.Nothing))
-      (record { state = state.Secured (link h cover.Nothing half.Nothing); reply = reply.Success h; words = below (λ j. let i = y .perma .at + p + j in store i (bitOr (wordAt (a .image) i) (fieldAt (a .frame) (at + 16 * j) 16))) n })
+      (record {
+        state = state.Secured (bare h);
+        reply = reply.Success h;
+        words = below (λ j. let i = y .perma .at + p + j in store i (bitOr (wordAt (a .image) i) (fieldAt (a .frame) (at + 16 * j) 16))) n;
+      })
   -- NAK: Arbitrate, and no reply
-  pub nak : (st : State) → st ≢ state.Killed → heardOf (a .frame) (a .bits) ≡ heard.nak → hears A a (on st false r) ≡ done y a r state.Arbitrate reply.Silence []
+  pub nak : (st : State) → st ≢ state.Killed → heardOf (a .frame) (a .bits) ≡ heard.nak
+      → hears A a (on st false r) ≡ done y a r state.Arbitrate reply.Silence []
 
 -- calls without an image, of a tag with any: the gate's admission in Arbitrate with the port free; the port asked for outside Open and Secured, given back, and
 -- its register as a number, cleared
@@ -183,22 +220,26 @@ pub record Transfers (A : Program) (y : Layout) (m : List ℕ) (st : State) (r :
   pub read : (at n : ℕ) (room : List ℕ) → st ≢ state.Killed → 1 ≤ n → n ≤ 255 → at + n ≤ y .user .words → 2 * n ≤ length room
       → asked A (on st true r) m (call.read at n room) ≡ gives 0 (on st true r) (16 * n) 0 m (packed (wordsBits m (y .user .at + at) n) room)
   -- the writable words, as one change; bit 1 where some word wasn't written
-  pub write : (at : ℕ) (d : List ℕ) (n s : ℕ) → st ≢ state.Killed → length d ≡ 2 * n → 1 ≤ n → n ≤ 255 → at + n ≤ y .user .words → n ≤ pairsIn y
+  pub write : (at : ℕ) (d : List ℕ) (n s : ℕ) → st ≢ state.Killed → length d ≡ 2 * n
+      → 1 ≤ n → n ≤ 255 → at + n ≤ y .user .words → n ≤ pairsIn y
       → (marks : ℕ → Bool) → ((j : ℕ) → j < n → Tells (marks j) (PortWrites y m (at + j)))
       → let stores = changeStores (y .work .at) (marked marks (λ j. store (y .user .at + at + j) (wordAt d j)) n) in length stores ≤ s
       → asked A (on st true r) m (call.write at d s)
       ≡ gives 0 (on st true (record { unwritten = r .unwritten || not (every marks n); killed = r .killed })) 0 (length stores) (after m stores) []
   -- when Killed: zeros, and nothing stored; bit 0 is set
   pub read-killed : (at n : ℕ) (room : List ℕ) → st ≡ state.Killed → 1 ≤ n → n ≤ 255 → at + n ≤ y .user .words → 2 * n ≤ length room
-      → asked A (on st true r) m (call.read at n room) ≡ gives 0 (on st true (record { unwritten = r .unwritten; killed = true })) (16 * n) 0 m (packed (replicate (16 * n) 0) room)
-  pub write-killed : (at : ℕ) (d : List ℕ) (n s : ℕ) → st ≡ state.Killed → length d ≡ 2 * n → 1 ≤ n → n ≤ 255 → at + n ≤ y .user .words → n ≤ pairsIn y
+      → asked A (on st true r) m (call.read at n room)
+      ≡ gives 0 (on st true (record { unwritten = r .unwritten; killed = true })) (16 * n) 0 m (packed (replicate (16 * n) 0) room)
+  pub write-killed : (at : ℕ) (d : List ℕ) (n s : ℕ) → st ≡ state.Killed → length d ≡ 2 * n
+      → 1 ≤ n → n ≤ 255 → at + n ≤ y .user .words → n ≤ pairsIn y
       → asked A (on st true r) m (call.write at d s) ≡ leaves 0 (on st true (record { unwritten = r .unwritten; killed = true })) m []
 
 -- power-up of a good image, whatever is pending; n is the image afterwards
 pub record Start (A : Program) (y : Layout) (m n : List ℕ) : Type 0 where
   -- with power enough, and 257 stores always are: Killed if the image says so, else Arbitrate; port free, register 0
   pub up : (s : ℕ) → length (powerStores y m) ≤ s
-      → asked A offSession m (powerUp s) ≡ poweredTo 0 (on (cond (eqb (killedWord y n) 0) state.Arbitrate state.Killed) false clear) (length (powerStores y m)) n
+      → asked A offSession m (powerUp s)
+      ≡ poweredTo 0 (on (cond (eqb (killedWord y n) 0) state.Arbitrate state.Killed) false clear) (length (powerStores y m)) n
   pub enough : length (powerStores y m) ≤ 257
   -- the pending words are stored, nothing is pending and the image is good; EPC word 0 is the CRC-16 over the PC and the L words after it
   pub words : (i : ℕ) → i < y .work .at → (i ≡ y .epc .at → ⊥) → wordAt n i ≡ wordAt (after m (pending y m)) i

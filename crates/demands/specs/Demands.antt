@@ -57,7 +57,16 @@ pub record Tabled (t : Tag) (c : Call) (r : Result) : Type 0 where
   pub coded : r .number ≡ 10 → AnErrorCode (codeIn t c)
   pub lost : r .number ≡ 11
       → (powerIn c < length (storesIn t c))
-      × (r ≡ record { number = 11; session = offSession; reply = 0; stores = powerIn c; value = 0; image = after (imageIn t c) (take (powerIn c) (storesIn t c)); room = roomIn c })
+      × (r
+      ≡ record {
+        number = 11;
+        session = offSession;
+        reply = 0;
+        stores = powerIn c;
+        value = 0;
+        image = after (imageIn t c) (take (powerIn c) (storesIn t c));
+        room = roomIn c;
+      })
   pub dropped : r .number ≡ 12 → r ≡ leaves 12 (movedTo (liveOf (t .session .power)) state.Arbitrate) (imageIn t c) (roomIn c)
   pub silent : r .reply ≡ 0 → r .room ≡ roomIn c
   pub made : r .number ≡ 0 → (r .stores ≡ length (storesIn t c)) × (r .image ≡ after (imageIn t c) (storesIn t c))
@@ -149,7 +158,8 @@ SameOnce A y m n =
     (j k : ℕ) → poweredUp A m j .number ≡ 0 → poweredUp A n k .number ≡ 0
     → (i : ℕ) → i < y .work .at → wordAt (poweredUp A m j .image) i ≡ wordAt (poweredUp A n k .image) i
 
--- m, which is left where k stores count as made, comes to the old words or to the new ones; no power-up of it that lasts for 257 stores (255 words, the count 0 and the CRC-16) is refused or cut
+-- m, which is left where k stores count as made, comes to the old words or to the new ones; no power-up of it that lasts for 257 stores
+-- (255 words, the count 0 and the CRC-16) is refused or cut
 pub record Unbroken (A : Program) (y : Layout) (t : Tag) (c : Storing) (n enough k : ℕ) (m : List ℕ) : Type 0 where
   pub old : k ≤ 2 * n → SameOnce A y m (t .image)
   pub new : 2 * n < k → SameOnce A y m (A t (lasting c enough) .image)

@@ -233,7 +233,8 @@ pub record Refusals (A : Program) : Type 0 where
   pub unheard : (y : Layout) (a : Air) (st : State) (r : Register) → Idle y (a .image) → Unheard A a st r
   pub wrong : (y : Layout) (a : Air) (r : Register) → Idle y (a .image) → OutOfPlace A a r
   pub dropped : (y : Layout) (a : Air) (r : Register) → Idle y (a .image) → Dropped A y a r
-  pub errors : (y : Layout) (a : Air) (r : Register) (secured : Bool) (h : ℕ) (c : Cover) → Idle y (a .image) → 6 ≤ length (a .room) → Errors A y a r secured h c
+  pub errors : (y : Layout) (a : Air) (r : Register) (secured : Bool) (h : ℕ) (c : Cover) → Idle y (a .image) → 6 ≤ length (a .room)
+      → Errors A y a r secured h c
   pub locks : (y : Layout) (a : Air) (r : Register) (h : ℕ) (c : Cover) → Idle y (a .image) → 6 ≤ length (a .room) → Locks A y a r h c
   pub power-up : (m : List ℕ) (s : Session) (n u : ℕ) → checkOf m ≡ refused n → asked A s m (powerUp u) ≡ leaves n offSession m []
   pub alone : (m : List ℕ) → NoImageRefused A m

@@ -1,5 +1,5 @@
--- What the terms of the demands come to where a definition stands behind them (RULES 1 to 4): each said once more from the rules, so that a definition which became another breaks a demand.
--- Assumes nothing.
+-- What the terms of the demands come to where a definition stands behind them (RULES 1 to 4): each said once more from the rules, so that
+-- a definition which became another breaks a demand. Assumes nothing.
 use Prim.Native.Nat.{ℕ, _+_, _-_, _*_, _/_, _%_, _≤_, _<_}
 use mathlib.Core.Path.{_≡_}
 use mathlib.Core.Logic.{_⊎_}
@@ -48,7 +48,8 @@ pub record Words (y : Layout) (m : List ℕ) : Type 0 where
   -- power-up: nothing pending, then only the CRC-16; else the pending words in order, the count 0, and the CRC-16
   pub settled : countIn y m ≡ 0 → powerStores y m ≡ store (y .epc .at) (crcOf (wordsBits m (y .epc .at + 1) (lengthOf (pcWord y m) + 1))) ∷ []
   pub pends : (s : Store) (ss : List Store) → pending y m ≡ s ∷ ss
-      → let settling = (s ∷ ss) ++ (store (y .work .at) 0 ∷ []) in powerStores y m ≡ settling ++ (store (y .epc .at) (epcCrc y (after m settling)) ∷ [])
+      → let settling = (s ∷ ss) ++ (store (y .work .at) 0 ∷ []) in
+      powerStores y m ≡ settling ++ (store (y .epc .at) (epcCrc y (after m settling)) ∷ [])
 
 -- a reply's bits, and bits in a room: eight to a byte, the first highest; the last byte filled with 0 bits, the bytes beyond as they were
 pub record Bits (m : List ℕ) : Type 0 where
@@ -59,7 +60,8 @@ pub record Bits (m : List ℕ) : Type 0 where
   pub error : (e h : ℕ) → replyBits m (reply.Error e h) ≡ sealed ((1 ∷ bitsOf 8 e) ++ bitsOf 16 h)
   pub none : (room : List ℕ) → packed [] room ≡ room
   pub byte : (b c d e f g h i x : ℕ) (bs room : List ℕ)
-      → packed (b ∷ c ∷ d ∷ e ∷ f ∷ g ∷ h ∷ i ∷ bs) (x ∷ room) ≡ (128 * b + 64 * c + 32 * d + 16 * e + 8 * f + 4 * g + 2 * h + i) ∷ packed bs room
+      → packed (b ∷ c ∷ d ∷ e ∷ f ∷ g ∷ h ∷ i ∷ bs) (x ∷ room)
+      ≡ (128 * b + 64 * c + 32 * d + 16 * e + 8 * f + 4 * g + 2 * h + i) ∷ packed bs room
   pub last : (b x : ℕ) (room : List ℕ) → packed (b ∷ []) (x ∷ room) ≡ 128 * b ∷ room
 
 -- the section of n words from word o on; and a word in a section
@@ -83,7 +85,8 @@ pub record Headed (m : List ℕ) (y : Layout) : Type 0 where
 pub record Terms : Type 0 where
   pub header : (m : List ℕ) → Headed m (layoutOf m)
   -- pending values go to these sections and no other
-  pub goes : (y : Layout) (o : ℕ) → mayGo y o ≡ true → In (y .status) o ⊎ In (y .reserved) o ⊎ In (y .epc) o ⊎ In (y .user) o ⊎ In (y .perma) o
+  pub goes : (y : Layout) (o : ℕ) → mayGo y o ≡ true
+      → In (y .status) o ⊎ In (y .reserved) o ⊎ In (y .epc) o ⊎ In (y .user) o ⊎ In (y .perma) o
   pub words : (y : Layout) (m : List ℕ) → Words y m
   pub bits : (m : List ℕ) → Bits m
   pub fields : Fields
@@ -92,7 +95,8 @@ pub record Terms : Type 0 where
       (checksumRight f n ≡ true → fieldAt f (n - 16) 16 ≡ sum) × (fieldAt f (n - 16) 16 ≡ sum → checksumRight f n ≡ true)
   pub banks : (y : Layout) → (bankOf y 0 ≡ y .reserved) × (bankOf y 1 ≡ y .epc) × (bankOf y 2 ≡ y .tid) × (bankOf y 3 ≡ y .user)
   -- a block exists where a word of USER begins it, short as it may be
-  pub blocks : (y : Layout) (b : ℕ) → 1 ≤ y .block → (b < blocksIn y → b * y .block < y .user .words) × (b * y .block < y .user .words → b < blocksIn y)
+  pub blocks : (y : Layout) (b : ℕ) → 1 ≤ y .block
+      → (b < blocksIn y → b * y .block < y .user .words) × (b * y .block < y .user .words → b < blocksIn y)
   pub work : (y : Layout) (w : ℕ) → y .work .words ≡ 1 + 2 * w → pairsIn y ≡ w
   pub pc-length : (pc : ℕ) → lengthOf pc ≡ pc / 2048
   -- pair k of the lock word, pwd before permalock, from the top of its ten bits; and the lock word after a Lock
