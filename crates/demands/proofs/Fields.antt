@@ -1,39 +1,25 @@
 -- What a frame's bits say, from the definitions of `frames` and `ebv`. Assumes nothing.
 use Prim.Native.Nat.{ℕ, _+_, _-_, _*_, _≤_, _<_}
-use mathlib.Core.Path.{_≡_, refl, ap, ap₂, _∙_}
+use mathlib.Core.Path.{_≡_, refl, ap, _∙_}
 use mathlib.Core.Logic.{_⊎_, inl, inr}
-use mathlib.Core.Bool.{Bool, true, false, cond, _||_}
-use mathlib.Core.List.{List, [], _∷_}
+use mathlib.Core.Bool.{Bool, true, false, cond}
+use mathlib.Core.List.{List, []}
 use native.Mathlib.Omega.{arith}
 use lib.Dec.{eqb, ltb}
 use lib.ListN.{length}
 use borrow.Author.Tests.{eq-eqb, ne-eqb, lt-ltb, le-ltb}
 use Rattle.bits.specs.Bits.{fieldAt}
-use Rattle.bits.specs.First.{first}
 use Rattle.ebv.specs.Ebv.{Read, groups, pointerAt}
 use Rattle.ebv.specs.Ebv as pointer
 use Rattle.frames.specs.declared.Order.{Order}
 use Rattle.frames.specs.declared.Order.the-variants as order
 use Rattle.frames.specs.Message.{Message}
 use Rattle.frames.specs.Message as heard
-use Rattle.frames.specs.Frames.{exactly, pointed, span, nakOf, reqRnOf, readOf, writeOf, killOf, lockOf, accessOf, blockWriteOf, blockEraseOf, permalockOf, heardOf}
+use Rattle.frames.specs.Frames.{exactly, pointed, reqRnOf, readOf, writeOf, killOf, lockOf, accessOf, blockWriteOf, blockEraseOf, permalockOf, heardOf}
 use Rattle.demands.specs.Fields.{Takes, After, Coded, Groups, Fields}
 
-abbrev table : List ℕ → ℕ → ℕ → Message
-table f n k =
-    first
-    ((nakOf n, eqb k 0xC0)
-    ∷ (reqRnOf f n, eqb k 0xC1)
-    ∷ (readOf f n, eqb k 0xC2)
-    ∷ (writeOf f n, eqb k 0xC3)
-    ∷ (killOf f n, eqb k 0xC4)
-    ∷ (lockOf f n, eqb k 0xC5)
-    ∷ (accessOf f n, eqb k 0xC6)
-    ∷ (blockWriteOf f n, eqb k 0xC7)
-    ∷ (blockEraseOf f n, eqb k 0xC8)
-    ∷ (permalockOf f n, eqb k 0xC9)
-    ∷ [])
-    (heard.refused 7)
+chosen : (m x y : Message) (b t : Bool) → m ≡ cond b x y → b ≡ t → m ≡ cond t x y
+chosen m x y b t h e = h ∙ ap (λ (s : Bool). cond s x y) e
 
 module _ (f : List ℕ) (n : ℕ) where
   takes : (k : ℕ) (o : Order) → heardOf f n ≡ exactly f n k o → Takes f n k o
@@ -48,54 +34,41 @@ module _ (f : List ℕ) (n : ℕ) where
   follows i g P h q = (λ p e d. q p e (h ∙ ap (λ (r : Read). pointed r g) d), λ d. h ∙ ap (λ (r : Read). pointed r g) d)
 
   module _ (least : 8 ≤ n) (most : n ≤ 8 * length f) where
-    by-code : (k : ℕ) → fieldAt f 0 8 ≡ k → heardOf f n ≡ table f n k
+    few : ltb (8 * length f) n ≡ false
+    few = le-ltb (8 * length f) n most
+
+    some : ltb n 8 ≡ false
+    some = le-ltb n 8 least
+
+    unknown-so : (fieldAt f 0 8 < 0xC0) ⊎ (0xC9 < fieldAt f 0 8) → heardOf f n ≡ heard.refused 7
     unfolding heardOf
-    by-code k e = ap₂ (λ (s t : Bool). cond (s || t) (heard.refused 7) (table f n (fieldAt f 0 8))) (le-ltb (8 * length f) n most) (le-ltb n 8 least) ∙ ap (table f n) e
-
-    -- the bit of a BlockPermalock
-    permalocks : (t : Bool) → eqb (fieldAt f 16 1) 0 ≡ t → fieldAt f 0 8 ≡ 0xC9 → heardOf f n
-        ≡ pointed (pointerAt f n 19)
-        (λ p e.
-        let s = span (fieldAt f 17 2) p (fieldAt f (19 + 8 * e) 8) in
-        cond t (exactly f n (59 + 8 * e) (order.ReadPermalock (fieldAt f 8 8) s))
-        (exactly f n (59 + 8 * e + 16 * s .count) (order.Permalock (fieldAt f 8 8) s (27 + 8 * e))))
-    permalocks t e c =
-        by-code 0xC9 c
-        ∙ ap
-        (λ (t : Bool).
-        pointed (pointerAt f n 19)
-        (λ p e.
-        let s = span (fieldAt f 17 2) p (fieldAt f (19 + 8 * e) 8) in
-        cond t (exactly f n (59 + 8 * e) (order.ReadPermalock (fieldAt f 8 8) s))
-        (exactly f n (59 + 8 * e + 16 * s .count) (order.Permalock (fieldAt f 8 8) s (27 + 8 * e))))) e
-
-    unknown-so : (k : ℕ) → fieldAt f 0 8 ≡ k → (k < 0xC0) ⊎ (0xC9 < k) → heardOf f n ≡ heard.refused 7
-    unknown-so k e d =
-        by-code k e
-        ∙ rw (no d 0xC0 (omega arith) (omega arith), no d 0xC1 (omega arith) (omega arith), no d 0xC2 (omega arith) (omega arith), no d 0xC3 (omega arith) (omega arith), no d 0xC4 (omega arith) (omega arith), no d 0xC5 (omega arith) (omega arith), no d 0xC6 (omega arith) (omega arith), no d 0xC7 (omega arith) (omega arith), no d 0xC8 (omega arith) (omega arith), no d 0xC9 (omega arith) (omega arith))
+    unknown-so d =
+        rw (few, some, no d 0xC0 (omega arith) (omega arith), no d 0xC1 (omega arith) (omega arith), no d 0xC2 (omega arith) (omega arith), no d 0xC3 (omega arith) (omega arith), no d 0xC4 (omega arith) (omega arith), no d 0xC5 (omega arith) (omega arith), no d 0xC6 (omega arith) (omega arith), no d 0xC7 (omega arith) (omega arith), no d 0xC8 (omega arith) (omega arith), no d 0xC9 (omega arith) (omega arith))
       where
-        no : (k < 0xC0) ⊎ (0xC9 < k) → (c : ℕ) → 0xC0 ≤ c → c ≤ 0xC9 → eqb k c ≡ false
-        no (inl l) c a b = ne-eqb k c (λ z. omega (arith, l, a, z))
-        no (inr l) c a b = ne-eqb k c (λ z. omega (arith, l, b, z))
+        no : (fieldAt f 0 8 < 0xC0) ⊎ (0xC9 < fieldAt f 0 8) → (c : ℕ) → 0xC0 ≤ c → c ≤ 0xC9 → eqb (fieldAt f 0 8) c ≡ false
+        no (inl l) c a b = ne-eqb (fieldAt f 0 8) c (λ z. omega (arith, l, a, z))
+        no (inr l) c a b = ne-eqb (fieldAt f 0 8) c (λ z. omega (arith, l, b, z))
 
     coded-so : Coded f n
+    unfolding heardOf
     coded-so =
         record {
-          nak = λ c. (
-            λ e. by-code 0xC0 c ∙ ap (λ (t : Bool). cond t heard.nak (heard.refused 7)) (eq-eqb n 8 e),
-            λ d. by-code 0xC0 c ∙ ap (λ (t : Bool). cond t heard.nak (heard.refused 7)) (ne-eqb n 8 d),
-          );
-          req-rn = λ c. takes _ _ (by-code 0xC1 c);
-          read = λ c. follows 10 _ _ (by-code 0xC2 c) (λ p e h. takes _ _ h);
-          write = λ c. follows 10 _ _ (by-code 0xC3 c) (λ p e h. takes _ _ h);
-          kill = λ c. takes _ _ (by-code 0xC4 c);
-          lock = λ c. takes _ _ (by-code 0xC5 c);
-          access = λ c. takes _ _ (by-code 0xC6 c);
-          block-write = λ c. follows 10 _ _ (by-code 0xC7 c) (λ p e h. takes _ _ h);
-          block-erase = λ c. follows 10 _ _ (by-code 0xC8 c) (λ p e h. takes _ _ h);
-          permalock-read = λ c z. follows 19 _ _ (permalocks true (eq-eqb (fieldAt f 16 1) 0 z) c) (λ p e h. takes _ _ h);
-          permalock = λ c z. follows 19 _ _ (permalocks false (ne-eqb (fieldAt f 16 1) 0 z) c) (λ p e h. takes _ _ h);
-          unknown = λ d. unknown-so (fieldAt f 0 8) refl d;
+          nak = λ c. (λ e. rw (few, some, c, eq-eqb n 8 e), λ d. rw (few, some, c, ne-eqb n 8 d));
+          req-rn = λ c. let h : heardOf f n ≡ reqRnOf f n = rw (few, some, c) in takes _ _ h;
+          read = λ c. let h : heardOf f n ≡ readOf f n = rw (few, some, c) in follows 10 _ _ h (λ p e h. takes _ _ h);
+          write = λ c. let h : heardOf f n ≡ writeOf f n = rw (few, some, c) in follows 10 _ _ h (λ p e h. takes _ _ h);
+          kill = λ c. let h : heardOf f n ≡ killOf f n = rw (few, some, c) in takes _ _ h;
+          lock = λ c. let h : heardOf f n ≡ lockOf f n = rw (few, some, c) in takes _ _ h;
+          access = λ c. let h : heardOf f n ≡ accessOf f n = rw (few, some, c) in takes _ _ h;
+          block-write = λ c. let h : heardOf f n ≡ blockWriteOf f n = rw (few, some, c) in follows 10 _ _ h (λ p e h. takes _ _ h);
+          block-erase = λ c. let h : heardOf f n ≡ blockEraseOf f n = rw (few, some, c) in follows 10 _ _ h (λ p e h. takes _ _ h);
+          permalock-read = λ c z.
+              let h : heardOf f n ≡ permalockOf f n = rw (few, some, c) in
+              follows 19 _ _ h (λ p e h. takes _ _ (chosen _ _ _ _ true h (eq-eqb (fieldAt f 16 1) 0 z)));
+          permalock = λ c z.
+              let h : heardOf f n ≡ permalockOf f n = rw (few, some, c) in
+              follows 19 _ _ h (λ p e h. takes _ _ (chosen _ _ _ _ false h (ne-eqb (fieldAt f 16 1) 0 z)));
+          unknown = unknown-so;
         }
 
   -- a pointer's groups, by the bounds and the first bit of each

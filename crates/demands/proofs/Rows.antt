@@ -137,6 +137,20 @@ heard-same f g p q r (heard.refused k) = p k
 heard-same f g p q r heard.nak = q
 heard-same f g p q r (heard.said c) = r c
 
+-- room and power matter to none of these
+module _ (v : Session) (m f : List ℕ) (bits fresh : ℕ) (a b : List ℕ) (p q : ℕ) where
+  pub same-broken : (x : Message) → broken (input v m f bits fresh a p) x ≡ broken (input v m f bits fresh b q) x
+  same-broken = heard-same (broken (input v m f bits fresh a p)) (broken (input v m f bits fresh b q)) (λ k. refl) refl (λ c. refl)
+
+  same-comes : (x : Message) → comes (input v m f bits fresh a p) x ≡ comes (input v m f bits fresh b q) x
+  same-comes = heard-same (comes (input v m f bits fresh a p)) (comes (input v m f bits fresh b q)) (λ k. refl) refl (λ c. refl)
+
+  pub same-effect : effect (input v m f bits fresh a p) ≡ effect (input v m f bits fresh b q)
+  same-effect = same-comes (heardOf f bits)
+
+  pub same-reply : replyOf (input v m f bits fresh a p) ≡ replyOf (input v m f bits fresh b q)
+  same-reply = ap (λ (x : Effect). replyOr (x .code) (linkOf (liveOf (v .power) .state) .handle) (x .reply)) same-effect
+
 -- a frame
 module _ (v : Session) (m f : List ℕ) (bits fresh : ℕ) (room : List ℕ) (g : Good (layoutOf m) m) where
   with-power : ℕ → Input
@@ -162,24 +176,8 @@ module _ (v : Session) (m f : List ℕ) (bits fresh : ℕ) (room : List ℕ) (g 
   unfolding with-power front
   front-refused s = (λ e. (refl, lit< tt), (λ e. (refl, lit< tt), (λ e. (refl, lit< tt), (λ e. (refl, lit< tt), (λ e. (refl, lit< tt), (λ e. (refl, lit< tt), (λ e. (refl, lit< tt), (λ e. (refl, lit< tt), (λ e. (refl, lit< tt), (λ e. (refl, lit< tt), (λ e. (refl, lit< tt), tt)))))))))))
 
-  -- the power matters to none of these
+  -- the power matters to no row of the front
   module _ (a b : ℕ) where
-    same-broken : (x : Message) → broken (with-power a) x ≡ broken (with-power b) x
-    unfolding with-power
-    same-broken = heard-same (broken (with-power a)) (broken (with-power b)) (λ k. refl) refl (λ c. refl)
-
-    same-comes : (x : Message) → comes (with-power a) x ≡ comes (with-power b) x
-    unfolding with-power
-    same-comes = heard-same (comes (with-power a)) (comes (with-power b)) (λ k. refl) refl (λ c. refl)
-
-    same-effect : effect (with-power a) ≡ effect (with-power b)
-    unfolding with-power
-    same-effect = same-comes (heardOf f bits)
-
-    same-reply : replyOf (with-power a) ≡ replyOf (with-power b)
-    unfolding with-power
-    same-reply = ap (λ (x : Effect). replyOr (x .code) (linkOf (liveOf (v .power) .state) .handle) (x .reply)) same-effect
-
     same-front : None (front a) → None (front b)
     unfolding with-power front
     same-front h =
@@ -200,10 +198,10 @@ module _ (v : Session) (m f : List ℕ) (bits fresh : ℕ) (room : List ℕ) (g 
                       (
                         h .1 .1 .1 .1 .1 .1 .1 .0,
                         (
-                          sym (same-broken (heardOf f bits)) ∙ r .0,
+                          sym (same-broken v m f bits fresh room room a b (heardOf f bits)) ∙ r .0,
                           (
-                            ap₂ (λ (x : Effect) (q : Reply). isError (x .code) && fits q room) (sym same-effect) (sym same-reply) ∙ r .1 .0,
-                            (ap (λ (q : Reply). not (fits q room)) (sym same-reply) ∙ r .1 .1 .0, tt),
+                            ap₂ (λ (x : Effect) (q : Reply). isError (x .code) && fits q room) (sym (same-effect v m f bits fresh room room a b)) (sym (same-reply v m f bits fresh room room a b)) ∙ r .1 .0,
+                            (ap (λ (q : Reply). not (fits q room)) (sym (same-reply v m f bits fresh room room a b)) ∙ r .1 .1 .0, tt),
                           ),
                         ),
                       ),
@@ -240,19 +238,19 @@ module _ (v : Session) (m f : List ℕ) (bits fresh : ℕ) (room : List ℕ) (g 
         image = λ s.
             ap (λ (r : Result). r .image) (split s ∙ none-first (front s) (ends s) (same-front a s h))
             ∙ ends-image s m (storesOf (with-power s)) (cut (with-power s)) _ refl refl
-            ∙ ap (λ (x : Effect). after m (take s (changeStores (layoutOf m .work .at) (x .words)))) (same-effect s 0);
+            ∙ ap (λ (x : Effect). after m (take s (changeStores (layoutOf m .work .at) (x .words)))) (same-effect v m f bits fresh room room s 0);
         stores = λ s.
             ap (λ (r : Result). r .stores) (split s ∙ none-first (front s) (ends s) (same-front a s h))
             ∙ ends-stores s (storesOf (with-power s)) (cut (with-power s)) _ refl refl
-            ∙ ap (λ (x : Effect). min s (length (changeStores (layoutOf m .work .at) (x .words)))) (same-effect s 0);
+            ∙ ap (λ (x : Effect). min s (length (changeStores (layoutOf m .work .at) (x .words)))) (same-effect v m f bits fresh room room s 0);
         whole = λ s e.
-            subst (λ (x : Effect). length (changeStores (layoutOf m .work .at) (x .words)) ≤ s) (same-effect s 0)
+            subst (λ (x : Effect). length (changeStores (layoutOf m .work .at) (x .words)) ≤ s) (same-effect v m f bits fresh room room s 0)
             (ends-whole s (storesOf (with-power s)) (cut (with-power s)) _ refl
             (sym (ap (λ (r : Result). r .number) (split s ∙ none-first (front s) (ends s) (same-front a s h))) ∙ e));
         fails = λ s l.
             ap (λ (r : Result). r .number) (split s ∙ none-first (front s) (ends s) (same-front a s h))
             ∙ ap (λ (b : Bool). cond b (cut (with-power s)) (replied (with-power s) 0 (effect (with-power s) .state) (storesOf (with-power s))) .number)
-            (lt-ltb s _ (subst (λ (x : Effect). s < length (changeStores (layoutOf m .work .at) (x .words))) (same-effect 0 s) l));
+            (lt-ltb s _ (subst (λ (x : Effect). s < length (changeStores (layoutOf m .work .at) (x .words))) (same-effect v m f bits fresh room room 0 s) l));
       }
 
   frame-acts : (s : ℕ) → Refused m (frameOf (with-power s)) ⊎ Acting (layoutOf m) (record { session = v; image = m }) radio words

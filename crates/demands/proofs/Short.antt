@@ -12,20 +12,18 @@ use Rattle.bits.specs.First.{first}
 use Rattle.image.specs.declared.Layout.{Layout}
 use Rattle.image.specs.Check.{checkOf, good}
 use Rattle.image.proofs.Answers.{check-good}
-use Rattle.frames.specs.Message.{Message}
 use Rattle.frames.specs.Frames.{heardOf}
 use Rattle.replies.specs.declared.Reply.{Reply}
 use Rattle.replies.specs.Replies.{replyLength, replyBytes}
-use Rattle.states.specs.Commands.{linkOf, used}
-use Rattle.plans.specs.Effects.{Effect}
+use Rattle.states.specs.Commands.{used}
 use Rattle.tag.specs.declared.Session.{Session}
 use Rattle.tag.specs.Result.{Result}
-use Rattle.tag.specs.Table.{Input, input, liveOf, broken, comes, effect, isError, replyOr, replyOf, fits, storesOf, everything, cut, replied, rows, frameOf}
+use Rattle.tag.specs.Table.{Input, input, liveOf, effect, isError, replyOf, fits, storesOf, everything, cut, replied, rows, frameOf}
 use Rattle.demands.specs.Calls.{Tag, answerOf}
 use Rattle.demands.specs.Demands.{Storing, lasting}
 use Rattle.demands.specs.Refusals.{TooLittle}
 use Rattle.demands.proofs.Codes.{and-false}
-use Rattle.demands.proofs.Rows.{Rows, None, Each, first-or, none-first, first-at, heard-same, Refused, Acting, wordsOf, acts}
+use Rattle.demands.proofs.Rows.{Rows, None, Each, first-or, none-first, first-at, same-broken, same-reply, Refused, Acting, wordsOf, acts}
 use Rattle.demands.proofs.Cuts.{power-fails, power-made}
 
 -- answered with a reply
@@ -95,18 +93,6 @@ module _ (v : Session) (m f : List ℕ) (bits fresh : ℕ) where
 
   -- room and power matter to nothing before, and not to the reply
   module _ (a b : List ℕ) (p q : ℕ) where
-    same-broken : (x : Message) → broken (at a p) x ≡ broken (at b q) x
-    unfolding at
-    same-broken = heard-same (broken (at a p)) (broken (at b q)) (λ k. refl) refl (λ c. refl)
-
-    same-comes : (x : Message) → comes (at a p) x ≡ comes (at b q) x
-    unfolding at
-    same-comes = heard-same (comes (at a p)) (comes (at b q)) (λ k. refl) refl (λ c. refl)
-
-    same-reply : replyOf (at a p) ≡ replyOf (at b q)
-    unfolding at
-    same-reply = ap (λ (x : Effect). replyOr (x .code) (linkOf (liveOf (v .power) .state) .handle) (x .reply)) (same-comes (heardOf f bits))
-
     tight : Replies (frameOf (at b q)) → 8 * length a < frameOf (at b q) .reply → frameOf (at a p) ≡ everything (at a p) 4
     unfolding frameOf at before behind done
     tight h l = go (first-or (λ r. Replies r → ⊥) (before b q) (behind b q) (silent b q))
@@ -116,7 +102,7 @@ module _ (v : Session) (m f : List ℕ) (bits fresh : ℕ) where
         go (inr n) =
             let is : frameOf (at b q) ≡ behind b q = split b q ∙ none-first (before b q) (behind b q) n in
             let long : 8 * length a < replyLength (replyOf (at b q)) = rw (ap (λ (r : Result). r .reply) is ∙ reply-behind b q (subst Replies is h)) at l in
-            let small : length a < replyBytes (replyOf (at a p)) = subst (λ (r : Reply). length a < replyBytes r) (sym same-reply) (omega (arith, long)) in
+            let small : length a < replyBytes (replyOf (at a p)) = subst (λ (r : Reply). length a < replyBytes r) (sym (same-reply v m f bits fresh a b p q)) (omega (arith, long)) in
             let no : fits (replyOf (at a p)) a ≡ false = ap not (lt-ltb (length a) (replyBytes (replyOf (at a p))) small) in
             first-at 10 (rows (at a p)) (done a p) (
               n .0,
@@ -135,7 +121,7 @@ module _ (v : Session) (m f : List ℕ) (bits fresh : ℕ) where
                           (
                             n .1 .1 .1 .1 .1 .1 .1 .0,
                             (
-                              same-broken (heardOf f bits) ∙ n .1 .1 .1 .1 .1 .1 .1 .1 .0,
+                              same-broken v m f bits fresh a b p q (heardOf f bits) ∙ n .1 .1 .1 .1 .1 .1 .1 .1 .0,
                               (ap (λ (t : Bool). isError (effect (at a p) .code) && t) no ∙ and-false (isError (effect (at a p) .code)), ap not no),
                             ),
                           ),

@@ -268,37 +268,17 @@ module _ (t : Tag) where
       first-each (Tabled t c) (powerRows (t .image) s) (powered (t .image))
       (λ e. refusal t c 1 refl, (λ e. refusal t c 2 refl, (λ e. refusal t c 3 refl, (λ e. lost-answer t c (ltb-true _ _ e), tt)))) (zero-answer t c _ refl (λ q. refl) (refl, refl) refl)
 
--- the first row that holds, of each call's rows
-by-rows : (t : Tag) (c : Call) → answerOf t c ≡ first (rowsIn t c) (doneIn t c)
+-- each call's answer is its first row that holds; the numbers of its rows, and of what is left where none holds
+by-rows : (t : Tag) (c : Call) → (answerOf t c ≡ first (rowsIn t c) (doneIn t c)) × (numbersOf (rowsIn t c) ≡ orderOf c) × (doneIn t c .number ≡ 0)
 unfolding powerUpOf admitOf frameOf askOf releaseOf registerOf readOf writeOf
-by-rows t (powerUp s) = refl
-by-rows t (admit n) = refl
-by-rows t (frame f bits fresh room s) = refl
-by-rows t ask = refl
-by-rows t release = refl
-by-rows t register = refl
-by-rows t (read at count room) = refl
-by-rows t (write at d s) = refl
-
-in-order : (t : Tag) (c : Call) → numbersOf (rowsIn t c) ≡ orderOf c
-in-order t (powerUp s) = refl
-in-order t (admit n) = refl
-in-order t (frame f bits fresh room s) = refl
-in-order t ask = refl
-in-order t release = refl
-in-order t register = refl
-in-order t (read at count room) = refl
-in-order t (write at d s) = refl
-
-last-zero : (t : Tag) (c : Call) → doneIn t c .number ≡ 0
-last-zero t (powerUp s) = refl
-last-zero t (admit n) = refl
-last-zero t (frame f bits fresh room s) = refl
-last-zero t ask = refl
-last-zero t release = refl
-last-zero t register = refl
-last-zero t (read at count room) = refl
-last-zero t (write at d s) = refl
+by-rows t (powerUp s) = (refl, refl, refl)
+by-rows t (admit n) = (refl, refl, refl)
+by-rows t (frame f bits fresh room s) = (refl, refl, refl)
+by-rows t ask = (refl, refl, refl)
+by-rows t release = (refl, refl, refl)
+by-rows t register = (refl, refl, refl)
+by-rows t (read at count room) = (refl, refl, refl)
+by-rows t (write at d s) = (refl, refl, refl)
 
 first-under : (rs : Rows) (last : Result) → Under rs last (first rs last)
 first-under [] last = refl
@@ -311,9 +291,9 @@ first-under (r ∷ rs) last = go (r .1) refl (first-under rs last)
 exact : (t : Tag) (c : Call) → Exact answerOf t c
 exact t c =
     record {
-      order = in-order t c;
-      zero = last-zero t c;
-      under = subst (Under (rowsIn t c) (doneIn t c)) (sym (by-rows t c)) (first-under (rowsIn t c) (doneIn t c));
+      order = by-rows t c .1;
+      zero = by-rows t c .2;
+      under = subst (Under (rowsIn t c) (doneIn t c)) (sym (by-rows t c .0)) (first-under (rowsIn t c) (doneIn t c));
     }
 
 tabled : (t : Tag) (c : Call) → Tabled t c (answerOf t c)

@@ -7,6 +7,7 @@ use mathlib.Core.List.{List, [], _∷_, _++_}
 use native.Mathlib.Omega.{arith}
 use native.Mathlib.Nat.{le-div-iff-mul-le}
 use lib.Dec.{leb, ltb}
+use lib.ListN.{getD}
 use borrow.Author.Tests.{eqb-true, eq-eqb, leb-true, ltb-true}
 use Rattle.bits.specs.Words.{wordAt, Store, store, after}
 use Rattle.bits.specs.Bits.{fieldAt, bitsFrom}
@@ -88,6 +89,10 @@ checksum-so : (f : List ℕ) (n : ℕ) → let sum = crcOf (bitsFrom f 0 (n - 16
 unfolding checksumRight
 checksum-so f n = (eqb-true _ _, eq-eqb _ _)
 
+word-so : (m : List ℕ) (i : ℕ) → wordAt m i ≡ 256 * getD m (2 * i) 0 + getD m (2 * i + 1) 0
+unfolding wordAt
+word-so m i = omega arith
+
 header-so : (m : List ℕ) → Headed m (layoutOf m)
 unfolding layoutOf
 header-so m = record { block = refl; status = refl; reserved = refl; epc = refl; tid = refl; user = refl; perma = refl; work = refl }
@@ -110,6 +115,7 @@ goes-so y o e =
 pub terms-so : Terms
 terms-so =
     record {
+      word = word-so;
       header = header-so;
       goes = goes-so;
       words = words-so;

@@ -63,8 +63,8 @@ abbrev pub link : ℕ → Cover → Half → Link
 link h c p = record { handle = h; cover = c; half = p }
 
 -- no cover number and no half waiting
-abbrev pub bare : ℕ → Link
-bare h = link h cover.Nothing half.Nothing
+abbrev pub alone : ℕ → Link
+alone h = link h cover.Nothing half.Nothing
 
 -- answer 0: the state st, the reply rp and the words ws
 abbrev pub done : Layout → Air → Register → State → Reply → List Store → Result
@@ -116,10 +116,10 @@ pub record Radio (A : Program) (y : Layout) (a : Air) (r : Register) : Type 0 wh
   -- Req_RN with the admission number: the fresh word is the handle, the state Open if the access password is nonzero, else Secured
   pub req-rn : (n : ℕ) → accessWord y (a .image) 0 ≡ 0 → accessWord y (a .image) 1 ≡ 0
       → Does A y a r n order.ReqRn (state.Acknowledged n)
-      (record { state = state.Secured (bare (a .fresh)); reply = reply.Number (a .fresh); words = [] })
+      (record { state = state.Secured (alone (a .fresh)); reply = reply.Number (a .fresh); words = [] })
   pub req-rn-open : (n : ℕ) → (accessWord y (a .image) 0 ≢ 0) ⊎ (accessWord y (a .image) 1 ≢ 0)
       → Does A y a r n order.ReqRn (state.Acknowledged n)
-      (record { state = state.Open (bare (a .fresh)); reply = reply.Number (a .fresh); words = [] })
+      (record { state = state.Open (alone (a .fresh)); reply = reply.Number (a .fresh); words = [] })
   -- Req_RN with the handle: the fresh word is the cover number
   pub req-rn-cover : (secured : Bool) (h : ℕ) (c : Cover) (p : Half)
       → Does A y a r h order.ReqRn (linked secured (link h c p))
@@ -132,12 +132,12 @@ pub record Radio (A : Program) (y : Layout) (a : Air) (r : Register) : Type 0 wh
   pub read : (secured : Bool) (h : ℕ) (c : Cover) (b p n k : ℕ) → Readable y (a .image) secured b p n
       → ((1 ≤ n) × (k ≡ n)) ⊎ ((n ≡ 0) × (p + k ≡ bankOf y b .words))
       → Does A y a r h (order.Read (span b p n)) (linked secured (link h c half.Nothing))
-      (record { state = linked secured (bare h); reply = reply.Words (bankOf y b .at + p) k h; words = [] })
+      (record { state = linked secured (alone h); reply = reply.Words (bankOf y b .at + p) k h; words = [] })
   -- Write: the word without its cover, which is used up
   pub write : (secured : Bool) (h c : ℕ) (b p w : ℕ) → Writable y (a .image) secured b p 1 (bitXor w c)
       → Does A y a r h (order.Write (span b p 1) w) (linked secured (link h (cover.Number c) half.Nothing))
       (record {
-        state = linked secured (bare h);
+        state = linked secured (alone h);
         reply = reply.Success h;
         words = store (bankOf y b .at + p) (bitXor w c) ∷ [];
       })
@@ -157,7 +157,7 @@ pub record Radio (A : Program) (y : Layout) (a : Air) (r : Register) : Type 0 wh
   pub lock : (h : ℕ) (c : Cover) (mask action : ℕ) → Lockable y (a .image) mask action
       → Does A y a r h (order.Lock mask action) (state.Secured (link h c half.Nothing))
       (record {
-        state = state.Secured (bare h);
+        state = state.Secured (alone h);
         reply = reply.Success h;
         words = store (y .status .at) (lockedTo (lockWord y (a .image)) mask action) ∷ [];
       })
@@ -171,13 +171,13 @@ pub record Radio (A : Program) (y : Layout) (a : Air) (r : Register) : Type 0 wh
       })
   pub access-second : (secured : Bool) (h c w up : ℕ) → up ≡ accessWord y (a .image) 0 → bitXor w c ≡ accessWord y (a .image) 1
       → Does A y a r h (order.Access w) (linked secured (link h (cover.Number c) (half.Access up)))
-      (record { state = state.Secured (bare h); reply = reply.Number h; words = [] })
+      (record { state = state.Secured (alone h); reply = reply.Number h; words = [] })
   -- BlockWrite: the words of the frame
   pub block-write : (secured : Bool) (h : ℕ) (c : Cover) (b p n at : ℕ) → 1 ≤ n
       → Writable y (a .image) secured b p n (pcSent a at p)
       → Does A y a r h (order.BlockWrite (span b p n) at) (linked secured (link h c half.Nothing))
       (record {
-        state = linked secured (bare h);
+        state = linked secured (alone h);
         reply = reply.Success h;
         words = wordsTo (bankOf y b .at + p) (a .frame) at n;
       })
@@ -185,19 +185,19 @@ pub record Radio (A : Program) (y : Layout) (a : Air) (r : Register) : Type 0 wh
   pub block-erase : (secured : Bool) (h : ℕ) (c : Cover) (b p n : ℕ) → 1 ≤ n → Writable y (a .image) secured b p n 0
       → Does A y a r h (order.BlockErase (span b p n)) (linked secured (link h c half.Nothing))
       (record {
-        state = linked secured (bare h);
+        state = linked secured (alone h);
         reply = reply.Success h;
         words = below (λ j. store (bankOf y b .at + p + j) 0) n;
       })
   -- BlockPermalock that reads: PERMA words
   pub permalock-read : (h : ℕ) (c : Cover) (p n : ℕ) → 1 ≤ n → p + n ≤ y .perma .words
       → Does A y a r h (order.ReadPermalock 0 (span 3 p n)) (state.Secured (link h c half.Nothing))
-      (record { state = state.Secured (bare h); reply = reply.Words (y .perma .at + p) n h; words = [] })
+      (record { state = state.Secured (alone h); reply = reply.Words (y .perma .at + p) n h; words = [] })
   -- and one that locks: masked bits are added
   pub permalock : (h : ℕ) (c : Cover) (p n at : ℕ) → 1 ≤ n → PermaLockable y (a .image) p n (a .frame) at
       → Does A y a r h (order.Permalock 0 (span 3 p n) at) (state.Secured (link h c half.Nothing))
       (record {
-        state = state.Secured (bare h);
+        state = state.Secured (alone h);
         reply = reply.Success h;
         words = below (λ j. let i = y .perma .at + p + j in store i (bitOr (wordAt (a .image) i) (fieldAt (a .frame) (at + 16 * j) 16))) n;
       })

@@ -5,7 +5,7 @@ use mathlib.Core.Path.{_≡_}
 use mathlib.Core.Logic.{_⊎_}
 use mathlib.Core.Bool.{Bool, true, false, cond}
 use mathlib.Core.List.{List, [], _∷_, _++_}
-use lib.ListN.{length}
+use lib.ListN.{getD, length}
 use Rattle.bits.specs.Words.{wordAt, Store, store, after}
 use Rattle.bits.specs.Bits.{bitsOf, fieldAt, bitsFrom, wordsBits}
 use Rattle.crc.specs.Crc.{crcOf}
@@ -83,6 +83,8 @@ pub record Headed (m : List ℕ) (y : Layout) : Type 0 where
   pub work : y .work ≡ section (wordAt m 14) (wordAt m 15)
 
 pub record Terms : Type 0 where
+  -- words have their high byte first
+  pub word : (m : List ℕ) (i : ℕ) → wordAt m i ≡ 256 * getD m (2 * i) 0 + getD m (2 * i + 1) 0
   pub header : (m : List ℕ) → Headed m (layoutOf m)
   -- pending values go to these sections and no other
   pub goes : (y : Layout) (o : ℕ) → mayGo y o ≡ true
