@@ -1,4 +1,5 @@
--- A view shows its bank's words and no other (RULES 9.1): it answers as the plain form does, and a store outside the bank changes no byte of it. Assumes nothing.
+-- A view shows its bank's words and no other (RULES 9.1): it answers as the plain form does, and a store outside the bank changes no byte
+-- of it. Assumes nothing.
 use Prim.Native.Nat.{ℕ, _+_, _-_, _*_, _/_, _≤_, _<_}
 use mathlib.Core.Path.{_≡_, refl, sym, _∙_, subst⁻¹}
 use mathlib.Core.Bool.{Bool, true, false, cond}
@@ -14,14 +15,15 @@ use Rattle.bits.proofs.Words.{drop-with, take-with}
 use Rattle.image.specs.declared.Section.{Section}
 use Rattle.image.specs.declared.Layout.{Layout}
 use Rattle.image.specs.Layout.{layoutOf, end}
-use Rattle.image.specs.Check.{Checked, refused, good, short, headerWrong, contentBroken, checkOf}
+use Rattle.image.specs.Check.{Checked, refused, good, checkOf}
+use Rattle.image.specs.Steps.{short, headerWrong, contentBroken}
 use Rattle.image.specs.Rules.{Header}
 use Rattle.image.proofs.Answers.{check-good}
 use Rattle.rights.specs.Rights.{bankOf}
 use Rattle.rights.proofs.Banks.{bank-end}
 use Rattle.bank.specs.declared.Word.the-variants as word
 use Rattle.bank.specs.declared.View.{View}
-use Rattle.bank.specs.Views.{shown, bytesOf, viewIf, viewOf, countIn, wordIn, wordIf, wordOf}
+use Rattle.bank.specs.Views.{shown, bytesOf, viewIf, viewOf, wordsShown, wordIn, wordIf, wordOf}
 
 -- every bank of a good image lies in it
 pub bank-ends : (y : Layout) (m : List ℕ) (b : ℕ) → Header y m → 2 * end (bankOf y b) ≤ length m
@@ -70,7 +72,7 @@ same-word m b i = go (short m) (headerWrong m) (contentBroken m) refl refl refl
         shown-word (bankOf y b) m i (bank-ends y m b (check-good m y c .header))
 
 -- THAT BANK'S WORDS: of a good image a view has as many as the bank
-pub same-count : (m : List ℕ) (y : Layout) (b : ℕ) → checkOf m ≡ good y → countIn (viewOf m b) ≡ bankOf y b .words
+pub same-count : (m : List ℕ) (y : Layout) (b : ℕ) → checkOf m ≡ good y → wordsShown (viewOf m b) ≡ bankOf y b .words
 unfolding viewOf
 same-count m y b c = rw c (part-count (bankOf y b) m (bank-ends y m b (check-good m y c .header)))
 

@@ -15,11 +15,11 @@ use Rattle.bank.specs.declared.Word.the-variants as word
 use Rattle.bank.specs.declared.View.{View}
 
 -- the banks by number
-abbrev pub numberOf : Bank → ℕ
-numberOf bank.Reserved = 0
-numberOf bank.Epc = 1
-numberOf bank.Tid = 2
-numberOf bank.User = 3
+abbrev pub bankNumber : Bank → ℕ
+bankNumber bank.Reserved = 0
+bankNumber bank.Epc = 1
+bankNumber bank.Tid = 2
+bankNumber bank.User = 3
 
 -- what a view shows: 0 and the bank's bytes, or the check's number and none
 pub record Shown : Type 0 where
@@ -41,11 +41,11 @@ unfoldable pub viewOf : List ℕ → ℕ → Shown
 viewOf m b = viewIf m b (checkOf m)
 
 -- the words of a view, and word i of it
-abbrev pub countIn : Shown → ℕ
-countIn v = length (v .bytes) / 2
+abbrev pub wordsShown : Shown → ℕ
+wordsShown v = length (v .bytes) / 2
 
 unfoldable pub wordIn : Shown → ℕ → Word
-wordIn v i = cond (eqb (v .number) 0) (cond (ltb i (countIn v)) (word.Value (wordAt (v .bytes) i)) word.Past) (word.Refused (v .number))
+wordIn v i = cond (eqb (v .number) 0) (cond (ltb i (wordsShown v)) (word.Value (wordAt (v .bytes) i)) word.Past) (word.Refused (v .number))
 
 -- THE PLAIN FORM: word i of bank b of the image m
 abbrev pub wordIf : List ℕ → ℕ → ℕ → Checked → Word

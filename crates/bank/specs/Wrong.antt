@@ -1,4 +1,5 @@
--- Wrong answers that the promises of a view rule out, two for each, computed on the worked image: TID is words 26 and 27, USER follows (RULES 7.2). Assumes nothing.
+-- Wrong answers that the promises of a view rule out, two for each, computed on the worked image: TID is words 26 and 27, USER follows
+-- (RULES 7.2). Assumes nothing.
 use Prim.Native.Nat.{ℕ, _+_}
 use mathlib.Core.Path.{_≡_, refl, sym, ap, _∙_}
 use mathlib.Core.List.{List, [], _∷_}
@@ -12,7 +13,7 @@ use Rattle.image.specs.Worked.{worked}
 use Rattle.bank.specs.declared.View.{View}
 use Rattle.bank.specs.declared.Word.{Word}
 use Rattle.bank.specs.declared.Word.the-variants as word
-use Rattle.bank.specs.Views.{Shown, shown, viewOf, countIn, wordIn, wordOf}
+use Rattle.bank.specs.Views.{Shown, shown, viewOf, wordsShown, wordIn, wordOf}
 
 -- the worked image without its last word
 abbrev pub cutOff : List ℕ
@@ -44,11 +45,11 @@ pub never-made : (v : View) → shown v ≡ viewOf cutOff 2 → v .answer ≡ 0 
 never-made v e n = let z : _≡_ {A = ℕ} 0 2 = sym n ∙ ap (λ (x : Shown). x .number) (e ∙ cases .bad) in omega arith
 
 -- a count of the bytes, and one of USER too
-pub never-bytes : (v : View) → shown v ≡ viewOf worked 2 → countIn (shown v) ≡ 4 → ⊥
-never-bytes v e n = let z : _≡_ {A = ℕ} 4 2 = sym n ∙ ap countIn (e ∙ cases .tid) in omega arith
+pub never-bytes : (v : View) → shown v ≡ viewOf worked 2 → wordsShown (shown v) ≡ 4 → ⊥
+never-bytes v e n = let z : _≡_ {A = ℕ} 4 2 = sym n ∙ ap wordsShown (e ∙ cases .tid) in omega arith
 
-pub never-both : (v : View) → shown v ≡ viewOf worked 2 → countIn (shown v) ≡ 18 → ⊥
-never-both v e n = let z : _≡_ {A = ℕ} 18 2 = sym n ∙ ap countIn (e ∙ cases .tid) in omega arith
+pub never-both : (v : View) → shown v ≡ viewOf worked 2 → wordsShown (shown v) ≡ 18 → ⊥
+never-both v e n = let z : _≡_ {A = ℕ} 18 2 = sym n ∙ ap wordsShown (e ∙ cases .tid) in omega arith
 
 -- a view that reads on into USER, and one that reads nothing
 pub never-on : (v : View) → shown v ≡ viewOf worked 2 → wordIn (shown v) 2 ≡ word.Value 3 → ⊥

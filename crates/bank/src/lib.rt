@@ -4,7 +4,7 @@ ghost use Prim.Native.Nat.{_*_, _/_, _≤_};
 ghost use lib.ListN.{length};
 ghost use Rattle.image.specs.Layout.{end as endOf};
 ghost use Rattle.image.specs.Check.{rowOf, checkOf};
-ghost use Rattle.bank.specs.Views.{numberOf, bytesOf, shown, viewOf, countIn, wordIn, wordOf};
+ghost use Rattle.bank.specs.Views.{bankNumber, bytesOf, shown, viewOf, wordsShown, wordIn, wordOf};
 use image::Fit;
 use image::Section;
 
@@ -33,7 +33,7 @@ pub struct View<'a> {
 
 // A bank's number.
 fn number(bank: Bank) -> u16
-    ensures { λ r. ⌜ r ≡ numberOf bank ⌝ }
+    ensures { λ r. ⌜ r ≡ bankNumber bank ⌝ }
 {
     match bank {
         Bank::Reserved => 0,
@@ -53,7 +53,7 @@ fn bytes(image: &[u8], s: Section) -> &[u8]
 
 // The bank's part of a good image.
 fn part(image: &[u8], bank: Bank) -> &[u8]
-    ensures { λ r. ⌜ now r ≡ viewOf (now (image .entry)) (numberOf bank) .bytes ⌝ }
+    ensures { λ r. ⌜ now r ≡ viewOf (now (image .entry)) (bankNumber bank) .bytes ⌝ }
 {
     match image::check(image) {
         Fit::Short => &image[..0],
@@ -92,7 +92,7 @@ fn word_in(words: &[u8], answer: u8, i: u16) -> Word
 }
 
 pub fn view_of<'a>(image: &'a [u8], bank: Bank) -> View<'a>
-    ensures { λ r. ⌜ shown r ≡ viewOf (now (image .entry)) (numberOf bank) ⌝ }
+    ensures { λ r. ⌜ shown r ≡ viewOf (now (image .entry)) (bankNumber bank) ⌝ }
 {
     View {
         words: part(image, bank),
@@ -102,7 +102,7 @@ pub fn view_of<'a>(image: &'a [u8], bank: Bank) -> View<'a>
 
 // The words that a view shows.
 pub fn count<'a>(v: View<'a>) -> usize
-    ensures { λ r. ⌜ r ≡ countIn (shown (v .entry)) ⌝ }
+    ensures { λ r. ⌜ r ≡ wordsShown (shown (v .entry)) ⌝ }
 {
     words_in(v.words)
 }
@@ -116,7 +116,7 @@ pub fn read<'a>(v: View<'a>, i: u16) -> Word
 
 // Word i of a bank, through a view of it.
 pub fn word_of(image: &[u8], bank: Bank, i: u16) -> Word
-    ensures { λ r. ⌜ r ≡ wordOf (now (image .entry)) (numberOf bank) i ⌝ }
+    ensures { λ r. ⌜ r ≡ wordOf (now (image .entry)) (bankNumber bank) i ⌝ }
 {
     read(view_of(image, bank), i)
 }

@@ -21,8 +21,8 @@ use Rattle.tag.specs.declared.Session.{Session}
 use Rattle.tag.specs.Session.{offSession}
 use Rattle.tag.specs.Port.{bitOf}
 use Rattle.capi.specs.declared.Record.{Record}
-use Rattle.capi.specs.Records.{coveredIn, coverIn, halfIn, upperIn, recordWith, plain, linked, recordIn, recordOf, coverOf, halfOf, linkOf, onOf, looseOf, same, sessionOf}
-use Rattle.capi.specs.Steps.{stateOf, nearOf, flagsFit, numbersFit, isBare, stateFits, fitsOf}
+use Rattle.capi.specs.Records.{coveredIn, coverIn, halfIn, upperIn, recordWith, plain, linkedRecord, recordIn, recordOf, coverOf, halfOf, linkFrom, onOf, looseOf, same, sessionOf}
+use Rattle.capi.specs.Steps.{stateFrom, nearOf, flagsFit, numbersFit, isBare, stateFits, fitsOf}
 use Rattle.capi.specs.Laws.{same-is}
 
 or-left : (a b : ℕ) → a ≤ bitOr a b
@@ -163,9 +163,9 @@ module _ (r : Record) (f : Facts r) where
       same-if (plain (liveOf r st) n m) r (sym e) (bit-back _ (f .held)) (bit-back _ (f .unwritten)) (bit-back _ (f .killed)) (sym d) (sym (f .cover d)) (sym h) (sym (f .upper h)) (sym k)
 
   -- one with its link
-  linked-same : (st : State) (n : ℕ) → r .state ≡ n → same (linked (liveOf r st) n (linkOf r)) r ≡ true
+  linked-same : (st : State) (n : ℕ) → r .state ≡ n → same (linkedRecord (liveOf r st) n (linkFrom r)) r ≡ true
   linked-same st n e =
-      same-if (linked (liveOf r st) n (linkOf r)) r (sym e) (bit-back _ (f .held)) (bit-back _ (f .unwritten)) (bit-back _ (f .killed)) (covered-back (r .covered) (r .cover) (f .covered))
+      same-if (linkedRecord (liveOf r st) n (linkFrom r)) r (sym e) (bit-back _ (f .held)) (bit-back _ (f .unwritten)) (bit-back _ (f .killed)) (covered-back (r .covered) (r .cover) (f .covered))
       (cover-back (r .covered) (r .cover) (f .cover)) (half-back (r .half) (r .upper) (f .half)) (upper-back (r .half) (r .upper) (f .upper)) refl
 
   reads : (st : State) → looseOf r ≡ onOf r st → nearOf r ≡ onOf r st → same (recordIn (liveOf r st) st) r ≡ true → nearOf r ≡ sessionOf r
@@ -173,7 +173,7 @@ module _ (r : Record) (f : Facts r) where
   reads st p q e = rw (q, p, e)
 
   by-state : (n : ℕ) → r .state ≡ n → stateFits r ≡ true → 1 ≤ n → n ≤ 5 → nearOf r ≡ sessionOf r
-  unfolding looseOf nearOf stateOf
+  unfolding looseOf nearOf stateFrom
   by-state zero e g l m = absurd (omega arith)
   by-state (suc zero) e g l m =
       let z = alone r g (simp e) in
@@ -181,8 +181,8 @@ module _ (r : Record) (f : Facts r) where
   by-state (suc (suc zero)) e g l m =
       let z = alone r g (simp e) in
       reads (state.Acknowledged (r .number)) (simp e) (simp e) (plain-same (state.Acknowledged (r .number)) 2 (r .number) e refl (z .0 .covered) (z .0 .half))
-  by-state (suc (suc (suc zero))) e g l m = reads (state.Open (linkOf r)) (simp e) (simp e) (linked-same (state.Open (linkOf r)) 3 e)
-  by-state (suc (suc (suc (suc zero)))) e g l m = reads (state.Secured (linkOf r)) (simp e) (simp e) (linked-same (state.Secured (linkOf r)) 4 e)
+  by-state (suc (suc (suc zero))) e g l m = reads (state.Open (linkFrom r)) (simp e) (simp e) (linked-same (state.Open (linkFrom r)) 3 e)
+  by-state (suc (suc (suc (suc zero)))) e g l m = reads (state.Secured (linkFrom r)) (simp e) (simp e) (linked-same (state.Secured (linkFrom r)) 4 e)
   by-state (suc (suc (suc (suc (suc zero))))) e g l m =
       let z = alone r g (simp e) in
       reads state.Killed (simp e) (simp e) (plain-same state.Killed 5 0 e (eqb-true (r .number) 0 (simp e at (z .1))) (z .0 .covered) (z .0 .half))

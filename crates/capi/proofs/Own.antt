@@ -4,9 +4,7 @@ use mathlib.Core.Path.{_≡_, refl, sym, ap, _∙_, subst}
 use mathlib.Core.Bool.{true≢false, Bool, true, false, cond, not}
 use mathlib.Core.List.{List}
 use lib.Dec.{eqb}
-use borrow.Author.Tests.{eqb-true, eqb-false, eq-eqb, ne-eqb}
-use Rattle.image.specs.Layout.{layoutOf}
-use Rattle.image.specs.Content.{countIn}
+use borrow.Author.Tests.{eqb-false, eq-eqb, ne-eqb}
 use Rattle.states.specs.declared.State.{State}
 use Rattle.states.specs.declared.State.the-variants as state
 use Rattle.tag.specs.declared.Live.{Live}
@@ -16,7 +14,9 @@ use Rattle.tag.specs.declared.Session.{Session}
 use Rattle.states.specs.Commands.{isKilled}
 use Rattle.tag.specs.Table.{isOff, liveOf}
 use Rattle.tag.specs.Port.{withKilled}
-use Rattle.tag.specs.PortSteps.{heldRow, endRow, readRow, afterKilled}
+use Rattle.tag.specs.PortSteps.{readRow, afterKilled}
+use Rattle.tag.specs.Steps.{heldRow}
+use Rattle.tag.proofs.Ports.{row-none, own-zero}
 use Rattle.capi.specs.declared.Record.{Record}
 use Rattle.capi.specs.Records.{blank, recordIn, recordOf, sessionOf}
 use Rattle.capi.specs.Steps.{nearOf, fitsOf, killedRecord}
@@ -49,15 +49,8 @@ unfolding portRow
 row-held r e z = sym (ap portRow (ne-eqb (r .held) 0 z)) ∙ row-on r e
 
 -- a read that no row stops has the port
-pub row-none : (h v : ℕ) (m : List ℕ) (at count n : ℕ) → readRow h v m at count n ≡ 0 → h ≡ 0
-unfolding readRow
-row-none h v m at count n e = go (eqb v 0) (not (eqb (countIn (layoutOf m) m) 0)) (eqb h 0) refl refl e
-  where
-    go : (a w b : Bool) → eqb v 0 ≡ a → eqb h 0 ≡ b → cond (not a) v (cond w 5 (cond (not b) h (endRow (layoutOf m) at count n))) ≡ 0 → h ≡ 0
-    go a w true p q e = eqb-true h 0 q
-    go false w false p q e = absurd (eqb-false v 0 p e)
-    go true true false p q e = absurd (eqb-false 5 0 refl e)
-    go true false false p q e = e
+pub row-port : (h : ℕ) (m : List ℕ) (at count n : ℕ) → readRow h m at count n ≡ 0 → h ≡ 0
+row-port h m at count n e = own-zero h m at count n (row-none h m at count n e .0)
 
 -- a session under power is that of its record
 own-of : (r : Record) (l : Live) → sessionOf r .power ≡ power.On l → recordOf (power.On l) ≡ r

@@ -1,4 +1,5 @@
--- Reading what was written gives the session back, and a record that reads as a live session is that session's own (RULES 10.2 and 10.3). Assumes nothing.
+-- Reading what was written gives the session back, and a record that reads as a live session is that session's own (RULES 10.2 and 10.3).
+-- Assumes nothing.
 use Prim.Native.Nat.{ℕ}
 use mathlib.Core.Path.{_≡_, refl, sym, ap, _∙_}
 use mathlib.Core.Bool.{Bool, true, false, not, _&&_}

@@ -54,14 +54,14 @@ recordWith l st n c h =
 abbrev pub plain : Live → ℕ → ℕ → Record
 plain l st n = recordWith l st n cover.Nothing half.Nothing
 
-abbrev pub linked : Live → ℕ → Link → Record
-linked l st k = recordWith l st (k .handle) (k .cover) (k .half)
+abbrev pub linkedRecord : Live → ℕ → Link → Record
+linkedRecord l st k = recordWith l st (k .handle) (k .cover) (k .half)
 
 abbrev pub recordIn : Live → State → Record
 recordIn l state.Arbitrate = plain l 1 0
 recordIn l (state.Acknowledged n) = plain l 2 n
-recordIn l (state.Open k) = linked l 3 k
-recordIn l (state.Secured k) = linked l 4 k
+recordIn l (state.Open k) = linkedRecord l 3 k
+recordIn l (state.Secured k) = linkedRecord l 4 k
 recordIn l state.Killed = plain l 5 0
 
 abbrev pub blank : Record
@@ -80,8 +80,8 @@ coverOf covered n = cond (eqb covered 0) cover.Nothing (cover.Number n)
 abbrev pub halfOf : ℕ → ℕ → Half
 halfOf kind u = cond (eqb kind 0) half.Nothing (cond (eqb kind 1) (half.Access u) (half.Kill u))
 
-abbrev pub linkOf : Record → Link
-linkOf r = record { handle = r .number; cover = coverOf (r .covered) (r .cover); half = halfOf (r .half) (r .upper) }
+abbrev pub linkFrom : Record → Link
+linkFrom r = record { handle = r .number; cover = coverOf (r .covered) (r .cover); half = halfOf (r .half) (r .upper) }
 
 abbrev pub onOf : Record → State → Session
 onOf r st =
@@ -91,8 +91,8 @@ unfoldable pub looseOf : Record → Session
 looseOf r =
     cond (eqb (r .state) 1) (onOf r state.Arbitrate)
     (cond (eqb (r .state) 2) (onOf r (state.Acknowledged (r .number)))
-    (cond (eqb (r .state) 3) (onOf r (state.Open (linkOf r)))
-    (cond (eqb (r .state) 4) (onOf r (state.Secured (linkOf r)))
+    (cond (eqb (r .state) 3) (onOf r (state.Open (linkFrom r)))
+    (cond (eqb (r .state) 4) (onOf r (state.Secured (linkFrom r)))
     (cond (eqb (r .state) 5) (onOf r state.Killed) offSession))))
 
 unfoldable pub same : Record → Record → Bool

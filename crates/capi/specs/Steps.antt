@@ -1,4 +1,5 @@
--- A record read as the code reads it: which records are those of sessions under power, and of which. Equal to `sessionOf` by `fit-near` and `unfit-off`. Assumes nothing.
+-- A record read as the code reads it: which records are those of sessions under power, and of which. Equal to `sessionOf` by `fit-near`
+-- and `unfit-off`. Assumes nothing.
 use Prim.Native.Nat.{ℕ}
 use mathlib.Core.Bool.{Bool, cond, not, _&&_, _||_}
 use lib.Dec.{eqb, leb, ltb}
@@ -9,7 +10,7 @@ use Rattle.states.specs.declared.State.the-variants as state
 use Rattle.tag.specs.declared.Session.{Session}
 use Rattle.capi.specs.declared.Record.{Record}
 use Rattle.capi.specs.declared.Told.{Told}
-use Rattle.capi.specs.Records.{linkOf, onOf}
+use Rattle.capi.specs.Records.{linkFrom, onOf}
 
 -- the state of a record that has one: with a link or without
 abbrev pub linkedState : ℕ → Link → State
@@ -18,11 +19,11 @@ linkedState st k = cond (eqb st 3) (state.Open k) (state.Secured k)
 abbrev pub bareState : ℕ → ℕ → State
 bareState st n = cond (eqb st 2) (state.Acknowledged n) (cond (eqb st 1) state.Arbitrate state.Killed)
 
-unfoldable pub stateOf : Record → Link → State
-stateOf r k = cond (eqb (r .state) 3 || eqb (r .state) 4) (linkedState (r .state) k) (bareState (r .state) (r .number))
+unfoldable pub stateFrom : Record → Link → State
+stateFrom r k = cond (eqb (r .state) 3 || eqb (r .state) 4) (linkedState (r .state) k) (bareState (r .state) (r .number))
 
 unfoldable pub nearOf : Record → Session
-nearOf r = onOf r (stateOf r (linkOf r))
+nearOf r = onOf r (stateFrom r (linkFrom r))
 
 -- what is 0 or 1 is
 unfoldable pub flagsFit : Record → Bool

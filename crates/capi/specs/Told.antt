@@ -41,8 +41,8 @@ outcomeOf o =
       stores = o .stores;
     }
 
-abbrev pub placeOf : Section → Place
-placeOf s = record { at = s .at; words = s .words }
+abbrev pub placeFrom : Section → Place
+placeFrom s = record { at = s .at; words = s .words }
 
 abbrev pub nowhere : Place
 nowhere = record { at = 0; words = 0 }
@@ -66,13 +66,13 @@ layoutSheet y =
     record {
       answer = 0;
       block = y .block;
-      status = placeOf (y .status);
-      reserved = placeOf (y .reserved);
-      epc = placeOf (y .epc);
-      tid = placeOf (y .tid);
-      user = placeOf (y .user);
-      perma = placeOf (y .perma);
-      work = placeOf (y .work);
+      status = placeFrom (y .status);
+      reserved = placeFrom (y .reserved);
+      epc = placeFrom (y .epc);
+      tid = placeFrom (y .tid);
+      user = placeFrom (y .user);
+      perma = placeFrom (y .perma);
+      work = placeFrom (y .work);
     }
 
 -- THE SHEET of what the check answers: a refusal has no layout

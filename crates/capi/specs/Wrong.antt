@@ -1,4 +1,5 @@
--- Records that are no session, and for each exported operation two wrong answers that its promise rules out, computed (RULES 10.3 and 10.6). Assumes nothing.
+-- Records that are no session, and for each exported operation two wrong answers that its promise rules out, computed (RULES 10.3 and
+-- 10.6). Assumes nothing.
 use Prim.Native.Nat.{ℕ}
 use mathlib.Core.Path.{_≡_, refl, sym, ap, _∙_}
 use mathlib.Core.Bool.{true, false}
@@ -14,19 +15,20 @@ use Rattle.image.specs.Check.{checkOf}
 use Rattle.image.specs.Worked.{worked}
 use Rattle.frames.specs.Frames.{heardOf}
 use Rattle.replies.specs.Pack.{filled, packed}
-use Rattle.stores.specs.Stores.{powerStores}
+use Rattle.stores.specs.Stores.{powerStores, changeStores}
 use Rattle.states.specs.declared.Cover.the-variants as cover
 use Rattle.states.specs.declared.Half.the-variants as half
 use Rattle.states.specs.declared.State.the-variants as state
 use Rattle.tag.specs.Session.{offSession, on, clear}
 use Rattle.tag.specs.Power.{powerUpOf}
-use Rattle.tag.specs.Table.{input, frameOf, admitOf}
+use Rattle.tag.specs.Table.{frameOf, admitOf}
 use Rattle.tag.specs.Port.{askOf, releaseOf, registerOf, readOf, writeOf}
 use Rattle.capi.specs.declared.Record.{Record}
 use Rattle.capi.specs.declared.Sheet.{Sheet}
 use Rattle.capi.specs.Records.{recordOf, looseOf, same, sessionOf}
-use Rattle.tag.specs.Result.{Left}
+use Rattle.tag.specs.Result.{Left, firstOf}
 use Rattle.capi.specs.Told.{toldOf, sheetOf}
+use Rattle.tag.specs.Steps.{input}
 
 -- a record by state, port and number, and one with a link
 abbrev of : ℕ → ℕ → ℕ → Record
@@ -36,7 +38,8 @@ abbrev linked : ℕ → ℕ → ℕ → ℕ → Record
 linked covered kind c u =
     record { state = 4; held = 0; unwritten = 1; killed = 0; covered = covered; half = kind; number = 0x1234; cover = c; upper = u }
 
--- what is a session, and what is not: an unknown state, a number, a cover or a half where none belongs, a truth value that is neither 0 nor 1
+-- what is a session, and what is not: an unknown state, a number, a cover or a half where none belongs, a truth value that is neither 0
+-- nor 1
 pub record Readings : Type 0 where
   pub whole : sessionOf (linked 1 2 0x5678 0x9ABC)
       ≡ on (state.Secured (record { handle = 0x1234; cover = cover.Number 0x5678; half = half.Kill 0x9ABC })) false (record { unwritten = true; killed = false })
@@ -69,28 +72,28 @@ abbrev checked : Sheet
 checked = sheetOf (checkOf worked)
 
 abbrev powered : Left Record
-powered = toldOf (powerUpOf worked 1)
+powered = toldOf (firstOf (powerUpOf worked 1))
 
 abbrev admitted : Record → Left Record
-admitted r = toldOf (admitOf (sessionOf r) 0x1234)
+admitted r = toldOf (firstOf (admitOf (sessionOf r) 0x1234))
 
 abbrev heard : Record → Left Record
-heard r = toldOf (frameOf (input (sessionOf r) worked (0xC0 ∷ []) 8 0 [] 0))
+heard r = toldOf (firstOf (frameOf changeStores (input (sessionOf r) worked (0xC0 ∷ []) 8 0 [] 0)))
 
 abbrev asked : Record → Left Record
-asked r = toldOf (askOf (sessionOf r))
+asked r = toldOf (firstOf (askOf (sessionOf r)))
 
 abbrev released : Record → Left Record
-released r = toldOf (releaseOf (sessionOf r))
+released r = toldOf (firstOf (releaseOf (sessionOf r)))
 
 abbrev registered : Record → Left Record
-registered r = toldOf (registerOf (sessionOf r))
+registered r = toldOf (firstOf (registerOf (sessionOf r)))
 
 abbrev shown : Record → Left Record
-shown r = toldOf (readOf (sessionOf r) worked 2 1 (replicate 3 0xFF))
+shown r = toldOf (firstOf (readOf (sessionOf r) worked 2 1 (replicate 3 0xFF)))
 
 abbrev written : Record → Left Record
-written r = toldOf (writeOf (sessionOf r) worked 2 (0x11 ∷ 0x22 ∷ []) 5)
+written r = toldOf (firstOf (writeOf changeStores (sessionOf r) worked 2 (0x11 ∷ 0x22 ∷ []) 5))
 
 pub record Small : Type 0 where
   pub admit : admitted (of 1 0 0) .session ≡ of 2 0 0x1234

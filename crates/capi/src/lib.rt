@@ -3,10 +3,12 @@ ghost use mathlib.Core.Path.{_≡_};
 ghost use mathlib.Core.List.{[]};
 ghost use Rattle.image.specs.Check.{checkOf};
 ghost use Rattle.tag.specs.Power.{powerUpOf};
-ghost use Rattle.tag.specs.Table.{input, frameOf, admitOf};
+ghost use Rattle.tag.specs.Table.{frameOf, admitOf};
 ghost use Rattle.tag.specs.Port.{askOf, releaseOf, registerOf, readOf, writeOf};
 ghost use Rattle.capi.specs.Records.{sessionOf};
 ghost use Rattle.capi.specs.Told.{told, toldOf, sheetOf};
+ghost use Rattle.tag.specs.Result.{firstOf};
+ghost use Rattle.stores.specs.Stores.{changeStores};
 
 mod records;
 mod sheets;
@@ -67,7 +69,7 @@ pub extern "C" fn tag_check(image: &[u8]) -> Sheet
 // Power-up, with power for s stores.
 #[no_mangle]
 pub extern "C" fn tag_power_up(image: &mut [u8], s: usize) -> Told
-    ensures { λ r. ⌜ told r (now (image .exit)) [] ≡ toldOf (powerUpOf (now (image .entry)) s) ⌝ }
+    ensures { λ r. ⌜ told r (now (image .exit)) [] ≡ toldOf (firstOf (powerUpOf (now (image .entry)) s)) ⌝ }
 {
     records::outcome(tag::power_up(image, s))
 }
@@ -75,7 +77,7 @@ pub extern "C" fn tag_power_up(image: &mut [u8], s: usize) -> Told
 // An admission with a 16-bit number.
 #[no_mangle]
 pub extern "C" fn tag_admit(session: Record, number: u16) -> Told
-    ensures { λ r. ⌜ told r [] [] ≡ toldOf (admitOf (sessionOf session) number) ⌝ }
+    ensures { λ r. ⌜ told r [] [] ≡ toldOf (firstOf (admitOf (sessionOf session) number)) ⌝ }
 {
     records::outcome(records::session(session).admit(number))
 }
@@ -91,7 +93,7 @@ pub extern "C" fn tag_frame(
     room: &mut [u8],
     s: usize,
 ) -> Told
-    ensures { λ r. ⌜ told r (now (image .exit)) (now (room .exit)) ≡ toldOf (frameOf (input (sessionOf session) (now (image .entry)) (now (frame .entry)) n fresh (now (room .entry)) s)) ⌝ }
+    ensures { λ r. ⌜ told r (now (image .exit)) (now (room .exit)) ≡ toldOf (firstOf (frameOf changeStores (record { session = (sessionOf session); image = now (image .entry); frame = now (frame .entry); bits = n; fresh = fresh; room = now (room .entry); power = s }))) ⌝ }
 {
     records::outcome(records::session(session).frame(image, frame, n, fresh, room, s))
 }
@@ -99,7 +101,7 @@ pub extern "C" fn tag_frame(
 // Asks for the port.
 #[no_mangle]
 pub extern "C" fn tag_ask(session: Record) -> Told
-    ensures { λ r. ⌜ told r [] [] ≡ toldOf (askOf (sessionOf session)) ⌝ }
+    ensures { λ r. ⌜ told r [] [] ≡ toldOf (firstOf (askOf (sessionOf session))) ⌝ }
 {
     records::outcome(records::session(session).ask())
 }
@@ -107,7 +109,7 @@ pub extern "C" fn tag_ask(session: Record) -> Told
 // Gives the port back.
 #[no_mangle]
 pub extern "C" fn tag_release(session: Record) -> Told
-    ensures { λ r. ⌜ told r [] [] ≡ toldOf (releaseOf (sessionOf session)) ⌝ }
+    ensures { λ r. ⌜ told r [] [] ≡ toldOf (firstOf (releaseOf (sessionOf session))) ⌝ }
 {
     records::outcome(records::session(session).release())
 }
@@ -115,7 +117,7 @@ pub extern "C" fn tag_release(session: Record) -> Told
 // Reads the register, which clears it.
 #[no_mangle]
 pub extern "C" fn tag_register(session: Record) -> Told
-    ensures { λ r. ⌜ told r [] [] ≡ toldOf (registerOf (sessionOf session)) ⌝ }
+    ensures { λ r. ⌜ told r [] [] ≡ toldOf (firstOf (registerOf (sessionOf session))) ⌝ }
 {
     records::outcome(records::session(session).register())
 }
@@ -129,19 +131,17 @@ pub extern "C" fn tag_read(
     count: usize,
     room: &mut [u8],
 ) -> Told
-    ensures { λ r. ⌜ told r (now (image .entry)) (now (room .exit)) ≡ toldOf (readOf (sessionOf session) (now (image .entry)) at count (now (room .entry))) ⌝ }
+    ensures { λ r. ⌜ told r (now (image .entry)) (now (room .exit)) ≡ toldOf (firstOf (readOf (sessionOf session) (now (image .entry)) at count (now (room .entry)))) ⌝ }
 {
     let h = records::held_row(session);
-    let v = image::ready(image);
-    let row = tag::read_row(h, v, image, at, count, room.len());
+    let dead = session.state == 5;
+    let row = tag::read_words(h, dead, image, at, count, room);
     if row != 0 {
         return records::told(row, records::own(session, h), 0);
     }
-    if session.state == 5 {
-        tag::show(true, image, at, count, room);
+    if dead {
         return records::told(0, records::with_killed(session), 16 * count);
     }
-    tag::show(false, image, at, count, room);
     records::told(0, session, 16 * count)
 }
 
@@ -154,7 +154,7 @@ pub extern "C" fn tag_write(
     words: &[u8],
     s: usize,
 ) -> Told
-    ensures { λ r. ⌜ told r (now (image .exit)) [] ≡ toldOf (writeOf (sessionOf session) (now (image .entry)) at (now (words .entry)) s) ⌝ }
+    ensures { λ r. ⌜ told r (now (image .exit)) [] ≡ toldOf (firstOf (writeOf changeStores (sessionOf session) (now (image .entry)) at (now (words .entry)) s)) ⌝ }
 {
     records::outcome(records::session(session).write(image, at, words, s))
 }

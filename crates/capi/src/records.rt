@@ -4,9 +4,9 @@ ghost use mathlib.Core.Bool.{cond};
 ghost use lib.Dec.{eqb};
 ghost use Rattle.tag.specs.Session.{offSession};
 ghost use Rattle.tag.specs.Port.{bitOf};
-ghost use Rattle.tag.specs.PortSteps.{heldRow};
-ghost use Rattle.capi.specs.Records.{blank, coverOf, halfOf, linkOf, onOf, plain as plainOf, coveredIn, coverIn, halfIn, upperIn, linked as linkedOf, recordIn, recordOf, sessionOf};
-ghost use Rattle.capi.specs.Steps.{linkedState, bareState, stateOf, nearOf, flagsFit, numbersFit, isBare, stateFits, fitsOf, killedRecord, toldWith};
+ghost use Rattle.tag.specs.Steps.{heldRow};
+ghost use Rattle.capi.specs.Records.{blank, coverOf, halfOf, linkFrom, onOf, plain as plainOf, coveredIn, coverIn, halfIn, upperIn, linkedRecord as linkedOf, recordIn, recordOf, sessionOf};
+ghost use Rattle.capi.specs.Steps.{linkedState, bareState, stateFrom, nearOf, flagsFit, numbersFit, isBare, stateFits, fitsOf, killedRecord, toldWith};
 ghost use Rattle.capi.specs.Told.{outcomeOf};
 use crate::Record;
 use crate::Told;
@@ -48,7 +48,7 @@ fn half(kind: u8, upper: u16) -> Half
 }
 
 fn link(r: Record) -> Link
-    ensures { λ k. ⌜ k ≡ linkOf r ⌝ }
+    ensures { λ k. ⌜ k ≡ linkFrom r ⌝ }
 {
     Link {
         handle: r.number,
@@ -98,7 +98,7 @@ fn bare_state(state: u8, number: u16) -> State
 
 // The state of a record that has one.
 fn state_of(r: Record, k: Link) -> State
-    ensures { λ s. ⌜ s ≡ stateOf r k ⌝ }
+    ensures { λ s. ⌜ s ≡ stateFrom r k ⌝ }
 {
     if either(r.state == 3, r.state == 4) {
         return linked_state(r.state, k);

@@ -14,18 +14,10 @@ use Rattle.image.specs.declared.Section.{Section}
 use Rattle.image.specs.declared.Layout.{Layout}
 use Rattle.image.specs.Layout.{blocksIn, pairsIn}
 use Rattle.image.specs.Content.{lockWord, lengthOf, permalock}
-use Rattle.frames.specs.declared.Span.{Span}
-use Rattle.frames.specs.declared.Order.{Order}
-use Rattle.frames.specs.declared.Order.the-variants as order
 use Rattle.frames.specs.Frames.{span}
-use Rattle.rights.specs.declared.Code.{Code}
 use Rattle.rights.specs.declared.Code.the-variants as code
-use Rattle.rights.specs.Rights.{bankOf, pastEnd, noRight, other, pwdBit, permaBit, mayRead, mayWrite, beyond, badPc, spanWords, readCode, writeCode, lockedTo, lockCode, pairBreaks, somePermalock, userOpenForGood, notPerma, permaReadCode, permaCode}
-use Rattle.states.specs.declared.Half.{Half}
-use Rattle.states.specs.declared.Half.the-variants as half
-use Rattle.states.specs.Commands.{linkOf, isSecured, zeroKill}
-use Rattle.plans.specs.Effects.{Scene, halfKill, halfAccess, effectOf}
-use Rattle.demands.specs.Demands.{AnErrorCode}
+use Rattle.rights.specs.declared.Fault.the-variants as fault
+use Rattle.rights.specs.Rights.{bankOf, pwdBit, permaBit, mayRead, mayWrite, beyond, badPc, spanWords, readCode, writeCode, lockedTo, lockCode, pairBreaks, somePermalock, userOpenForGood, notPerma, permaReadCode, permaCode}
 use Rattle.demands.proofs.Rights.{reads-if, reads-not, writes-if, writes-not}
 use Rattle.demands.specs.Facts.{MayRead, MayWrite, Within, Past, TakesPc, AllRight, Readable, Writable, Lockable, PermaLockable}
 
@@ -45,25 +37,25 @@ within-beyond : (s : Section) (b p n : ℕ) → Within (s .words) p n → beyond
 within-beyond s b p n w = ap₂ (λ (t u : Bool). t || u) (lt-leb (s .words) p (w .0)) (le-ltb (s .words) (p + n) (w .1))
 
 module _ (y : Layout) (m : List ℕ) (q : Bool) (b p n : ℕ) where
-  pub read-past : Past (bankOf y b .words) p n → readCode y m q (span b p n) ≡ code.Error 0x03
+  pub read-past : Past (bankOf y b .words) p n → readCode y m q (span b p n) ≡ code.Error fault.PastEnd
   unfolding readCode
   read-past f = rw (past-beyond (bankOf y b) b p n f)
 
   pub read-right : (j : ℕ) → Within (bankOf y b .words) p n → (j < n) ⊎ ((n ≡ 0) × (p + j < bankOf y b .words)) → (MayRead y m q b (p + j) → ⊥)
-      → readCode y m q (span b p n) ≡ code.Error 0x04
+      → readCode y m q (span b p n) ≡ code.Error fault.NoRight
   unfolding readCode
-  read-right j w d e = rw (within-beyond (bankOf y b) b p n w, every-not (λ i. mayRead y m q b (p + i)) (spanWords (bankOf y b) (span b p n)) j (inside d) (reads-not y m q b (p + j) e))
+  read-right j w d e = rw (within-beyond (bankOf y b) b p n w, every-not (λ i. mayRead y m q b (p + i)) (spanWords y m (span b p n)) j (inside d) (reads-not y m q b (p + j) e))
     where
-      inside : (j < n) ⊎ ((n ≡ 0) × (p + j < bankOf y b .words)) → j < spanWords (bankOf y b) (span b p n)
+      inside : (j < n) ⊎ ((n ≡ 0) × (p + j < bankOf y b .words)) → j < spanWords y m (span b p n)
       inside (inl l) = rw (ne-eqb n 0 (omega arith)) l
       inside (inr z) = rw (eq-eqb n 0 (z .0)) (omega (arith, z .1))
 
   module _ (pc : ℕ) where
-    pub write-past : Past (bankOf y b .words) p n → writeCode y m q (span b p n) pc ≡ code.Error 0x03
+    pub write-past : Past (bankOf y b .words) p n → writeCode y m q (span b p n) pc ≡ code.Error fault.PastEnd
     unfolding writeCode
     write-past f = rw (past-beyond (bankOf y b) b p n f)
 
-    pub write-right : (j : ℕ) → Within (bankOf y b .words) p n → j < n → b < 4 → (MayWrite y m q b (p + j) → ⊥) → writeCode y m q (span b p n) pc ≡ code.Error 0x04
+    pub write-right : (j : ℕ) → Within (bankOf y b .words) p n → j < n → b < 4 → (MayWrite y m q b (p + j) → ⊥) → writeCode y m q (span b p n) pc ≡ code.Error fault.NoRight
     unfolding writeCode
     write-right j w l s e = rw (within-beyond (bankOf y b) b p n w, every-not (λ i. mayWrite y m q b (p + i)) n j l (writes-not y m q b (p + j) s e))
 
@@ -71,7 +63,7 @@ module _ (y : Layout) (m : List ℕ) (q : Bool) (b p n : ℕ) where
     all-right f = every-all (λ i. mayWrite y m q b (p + i)) n (λ j l. writes-if y m q b (p + j) (f j l))
 
     pub write-pc : Within (bankOf y b .words) p n → AllRight y m q b p n → TakesPc b p n → y .epc .words < lengthOf pc + 2
-        → writeCode y m q (span b p n) pc ≡ code.Error 0x03
+        → writeCode y m q (span b p n) pc ≡ code.Error fault.PastEnd
     unfolding writeCode
     write-pc w f t l =
         rw (within-beyond (bankOf y b) b p n w, all-right f, eq-eqb b 1 (t .0), le-leb p 1 (t .1), lt-ltb 1 (p + n) (t .2), lt-ltb (y .epc .words) (lengthOf pc + 2) l)
@@ -86,7 +78,7 @@ module _ (y : Layout) (m : List ℕ) (q : Bool) (b p n : ℕ) where
         go false u v d e g = refl
 
     pub write-many : Within (bankOf y b .words) p n → AllRight y m q b p n → (TakesPc b p n → lengthOf pc + 2 ≤ y .epc .words) → pairsIn y < n
-        → writeCode y m q (span b p n) pc ≡ code.Error 0x00
+        → writeCode y m q (span b p n) pc ≡ code.Error fault.Other
     unfolding writeCode
     write-many w f g l = rw (within-beyond (bankOf y b) b p n w, all-right f, good-pc g, lt-ltb (pairsIn y) n l)
 
@@ -94,7 +86,7 @@ module _ (y : Layout) (m : List ℕ) (q : Bool) (b p n : ℕ) where
 module _ (y : Layout) (m : List ℕ) (mask action : ℕ) where
   pub lock-pair : (k : ℕ) → k < 5
       → let old = lockWord y m in let new = lockedTo old mask action in
-      permaBit old k ≡ 1 → (permaBit new k ≢ 1) ⊎ (pwdBit new k ≢ pwdBit old k) → lockCode y m mask action ≡ code.Error 0x04
+      permaBit old k ≡ 1 → (permaBit new k ≢ 1) ⊎ (pwdBit new k ≢ pwdBit old k) → lockCode y m mask action ≡ code.Error fault.NoRight
   unfolding lockCode
   lock-pair k l e d =
       rw (every-not (λ k. not (pairBreaks (lockWord y m) (lockedTo (lockWord y m) mask action) k)) 5 k l (ap not (breaks-so d)))
@@ -111,9 +103,9 @@ module _ (y : Layout) (m : List ℕ) (mask action : ℕ) where
 
   pub lock-user : (b : ℕ) → mask % 4 ≢ 0
       → let new = lockedTo (lockWord y m) mask action in
-      pwdBit new 4 ≡ 0 → permaBit new 4 ≡ 1 → b < blocksIn y → permalock y m b ≢ 0 → lockCode y m mask action ≡ code.Error 0x04
+      pwdBit new 4 ≡ 0 → permaBit new 4 ≡ 1 → b < blocksIn y → permalock y m b ≢ 0 → lockCode y m mask action ≡ code.Error fault.NoRight
   unfolding lockCode
-  lock-user b f e d l g = ap (λ (t : Bool). cond first noRight (cond t noRight code.Nothing)) second ∙ either first
+  lock-user b f e d l g = ap (λ (t : Bool). cond first (code.Error fault.NoRight) (cond t (code.Error fault.NoRight) code.Nothing)) second ∙ either first
     where
       new : ℕ
       new = lockedTo (lockWord y m) mask action
@@ -126,7 +118,7 @@ module _ (y : Layout) (m : List ℕ) (mask action : ℕ) where
           ap₂ (λ (t u : Bool). not t && (u && eqb (permaBit new 4) 1) && somePermalock y m) (ne-eqb (mask % 4) 0 f) (eq-eqb (pwdBit new 4) 0 e)
           ∙ ap₂ (λ (t u : Bool). t && not u) (eq-eqb (permaBit new 4) 1 d) (every-not (λ i. eqb (permalock y m i) 0) (blocksIn y) b l (ne-eqb (permalock y m b) 0 g))
 
-      either : (t : Bool) → cond t noRight noRight ≡ code.Error 0x04
+      either : (t : Bool) → cond t (code.Error fault.NoRight) (code.Error fault.NoRight) ≡ code.Error fault.NoRight
       either true = refl
       either false = refl
 
@@ -135,19 +127,19 @@ not-perma : (y : Layout) (b p n : ℕ) → (b ≢ 3) ⊎ (y .perma .words < p + 
 not-perma y b p n (inl d) = ap (λ (t : Bool). not t || ltb (y .perma .words) (p + n)) (ne-eqb b 3 d)
 not-perma y b p n (inr l) = or-right (not (eqb b 3)) (ltb (y .perma .words) (p + n)) (lt-ltb (y .perma .words) (p + n) l)
 
-pub perma-read : (y : Layout) (b p n : ℕ) → (b ≢ 3) ⊎ (y .perma .words < p + n) → permaReadCode y (span b p n) ≡ code.Error 0x03
+pub perma-read : (y : Layout) (b p n : ℕ) → (b ≢ 3) ⊎ (y .perma .words < p + n) → permaReadCode y (span b p n) ≡ code.Error fault.PastEnd
 unfolding permaReadCode
 perma-read y b p n d = rw (not-perma y b p n d)
 
 module _ (y : Layout) (m : List ℕ) (f : List ℕ) (p n at : ℕ) where
-  pub perma-past : (b : ℕ) → (b ≢ 3) ⊎ (y .perma .words < p + n) → permaCode y m (span b p n) f at ≡ code.Error 0x03
+  pub perma-past : (b : ℕ) → (b ≢ 3) ⊎ (y .perma .words < p + n) → permaCode y m (span b p n) f at ≡ code.Error fault.PastEnd
   unfolding permaCode
   perma-past b d = rw (not-perma y b p n d)
 
   in-perma : p + n ≤ y .perma .words → notPerma y (span 3 p n) ≡ false
   in-perma l = le-ltb (y .perma .words) (p + n) l
 
-  pub perma-mask : (k : ℕ) → p + n ≤ y .perma .words → k < 16 * n → bitAt f (at + k) ≢ 0 → blocksIn y ≤ 16 * p + k → permaCode y m (span 3 p n) f at ≡ code.Error 0x03
+  pub perma-mask : (k : ℕ) → p + n ≤ y .perma .words → k < 16 * n → bitAt f (at + k) ≢ 0 → blocksIn y ≤ 16 * p + k → permaCode y m (span 3 p n) f at ≡ code.Error fault.PastEnd
   unfolding permaCode
   perma-mask k l i d e =
       rw (
@@ -157,7 +149,7 @@ module _ (y : Layout) (m : List ℕ) (f : List ℕ) (p n at : ℕ) where
       )
 
   pub perma-user : p + n ≤ y .perma .words → ((k : ℕ) → k < 16 * n → bitAt f (at + k) ≢ 0 → 16 * p + k < blocksIn y)
-      → pwdBit (lockWord y m) 4 ≡ 0 → permaBit (lockWord y m) 4 ≡ 1 → permaCode y m (span 3 p n) f at ≡ code.Error 0x04
+      → pwdBit (lockWord y m) 4 ≡ 0 → permaBit (lockWord y m) 4 ≡ 1 → permaCode y m (span 3 p n) f at ≡ code.Error fault.NoRight
   unfolding permaCode
   perma-user l g e d =
       rw (in-perma l, every-all (λ k. eqb (bitAt f (at + k)) 0 || ltb (16 * p + k) (blocksIn y)) (16 * n) each, eq-eqb (pwdBit (lockWord y m) 4) 0 e, eq-eqb (permaBit (lockWord y m) 4) 1 d)
@@ -173,7 +165,7 @@ module _ (y : Layout) (m : List ℕ) (f : List ℕ) (p n at : ℕ) where
 pub read-clear : (y : Layout) (m : List ℕ) (q : Bool) (b p n : ℕ) → Readable y m q b p n → readCode y m q (span b p n) ≡ code.Nothing
 unfolding readCode
 read-clear y m q b p n r =
-    rw (within-beyond (bankOf y b) b p n (r .within), every-all (λ i. mayRead y m q b (p + i)) (spanWords (bankOf y b) (span b p n)) (λ j l. reads-if y m q b (p + j) (r .right j (inside (eqb n 0) refl l))))
+    rw (within-beyond (bankOf y b) b p n (r .within), every-all (λ i. mayRead y m q b (p + i)) (spanWords y m (span b p n)) (λ j l. reads-if y m q b (p + j) (r .right j (inside (eqb n 0) refl l))))
   where
     inside : {j : ℕ} (t : Bool) → eqb n 0 ≡ t → j < cond (eqb n 0) (bankOf y b .words - p) n → (j < n) ⊎ ((n ≡ 0) × (p + j < bankOf y b .words))
     inside {j} true e l = let k : j < bankOf y b .words - p = rw e at l in inr (eqb-true n 0 e, omega (arith, k))
@@ -187,7 +179,7 @@ write-clear y m q b p n pc w =
 pub lock-clear : (y : Layout) (m : List ℕ) (mask action : ℕ) → Lockable y m mask action → lockCode y m mask action ≡ code.Nothing
 unfolding lockCode
 lock-clear y m mask action l =
-    ap₂ (λ (t u : Bool). cond (not t) noRight (cond u noRight code.Nothing))
+    ap₂ (λ (t u : Bool). cond (not t) (code.Error fault.NoRight) (cond u (code.Error fault.NoRight) code.Nothing))
     (every-all (λ k. not (pairBreaks (lockWord y m) new k)) 5 (λ k i. kept k (eqb (permaBit (lockWord y m) k) 1) refl i))
     (user (eqb (mask % 4) 0) (eqb (pwdBit new 4) 0) (eqb (permaBit new 4) 1) refl refl refl)
   where
@@ -233,71 +225,3 @@ perma-clear y m p n f at l =
     not-01 true true a b = absurd (l .user (eqb-true _ _ a) (eqb-true _ _ b))
     not-01 true false a b = ap₂ (λ (x z : Bool). x && z) a b
     not-01 false v a b = ap (λ (x : Bool). x && eqb (permaBit (lockWord y m) 4) 1) a
-
--- no code, or one of the three
-abbrev pub Among : Code → Type 0
-Among e = (e ≡ code.Nothing) ⊎ AnErrorCode e
-
-among-past : Among pastEnd
-among-past = inr (inr (inl refl))
-
-among-right : Among noRight
-among-right = inr (inr (inr refl))
-
-among-other : Among other
-among-other = inr (inl refl)
-
-among-if : (b : Bool) (e d : Code) → Among e → Among d → Among (cond b e d)
-among-if true e d p q = p
-among-if false e d p q = q
-
-read-among : (y : Layout) (m : List ℕ) (q : Bool) (s : Span) → Among (readCode y m q s)
-unfolding readCode
-read-among y m q s =
-    among-if (beyond (bankOf y (s .bank)) s) pastEnd _ among-past
-    (among-if (not (every (λ j. mayRead y m q (s .bank) (s .pointer + j)) (spanWords (bankOf y (s .bank)) s))) noRight code.Nothing among-right (inl refl))
-
-write-among : (y : Layout) (m : List ℕ) (q : Bool) (s : Span) (pc : ℕ) → Among (writeCode y m q s pc)
-unfolding writeCode
-write-among y m q s pc =
-    among-if (beyond (bankOf y (s .bank)) s) pastEnd _ among-past
-    (among-if (not (every (λ j. mayWrite y m q (s .bank) (s .pointer + j)) (s .count))) noRight _ among-right
-    (among-if (badPc y s pc) pastEnd _ among-past (among-if (ltb (pairsIn y) (s .count)) other code.Nothing among-other (inl refl))))
-
-lock-among : (y : Layout) (m : List ℕ) (mask action : ℕ) → Among (lockCode y m mask action)
-unfolding lockCode
-lock-among y m mask action =
-    let new = lockedTo (lockWord y m) mask action in
-    among-if (not (every (λ k. not (pairBreaks (lockWord y m) new k)) 5)) noRight _ among-right
-    (among-if (not (eqb (mask % 4) 0) && userOpenForGood new && somePermalock y m) noRight code.Nothing among-right (inl refl))
-
-perma-among : (y : Layout) (m : List ℕ) (s : Span) (f : List ℕ) (p : ℕ) → Among (permaReadCode y s) × Among (permaCode y m s f p)
-unfolding permaReadCode permaCode
-perma-among y m s f p = (
-  among-if (notPerma y s) pastEnd code.Nothing among-past (inl refl),
-  among-if (notPerma y s) pastEnd _ among-past
-      (among-if (not (every (λ k. eqb (bitAt f (p + k)) 0 || ltb (16 * s .pointer + k) (blocksIn y)) (16 * s .count))) pastEnd _ among-past
-      (among-if (userOpenForGood (lockWord y m)) noRight code.Nothing among-right (inl refl))),
-)
-
-pub effect-among : (c : Scene) (o : Order) → Among (effectOf c o .code)
-effect-among c order.ReqRn = inl refl
-effect-among c (order.Read s) = read-among (c .layout) (c .image) (isSecured (c .state)) s
-effect-among c (order.Write s w) = write-among (c .layout) (c .image) (isSecured (c .state)) s _
-effect-among c (order.Kill w) = go (linkOf (c .state) .half)
-  where
-    go : (p : Half) → Among (halfKill c w p .code)
-    go half.Nothing = among-if (zeroKill (c .layout) (c .image)) other code.Nothing among-other (inl refl)
-    go (half.Access up) = inl refl
-    go (half.Kill up) = inl refl
-effect-among c (order.Lock mask action) = lock-among (c .layout) (c .image) mask action
-effect-among c (order.Access w) = go (linkOf (c .state) .half)
-  where
-    go : (p : Half) → Among (halfAccess c w p .code)
-    go half.Nothing = inl refl
-    go (half.Access up) = inl refl
-    go (half.Kill up) = inl refl
-effect-among c (order.BlockWrite s at) = write-among (c .layout) (c .image) (isSecured (c .state)) s _
-effect-among c (order.BlockErase s) = write-among (c .layout) (c .image) (isSecured (c .state)) s 0
-effect-among c (order.ReadPermalock rfu s) = perma-among (c .layout) (c .image) s (c .frame) 0 .0
-effect-among c (order.Permalock rfu s at) = perma-among (c .layout) (c .image) s (c .frame) at .1

@@ -2,17 +2,18 @@
 use Prim.Native.Nat.{ℕ, _+_, _-_, _*_, _/_, _%_, _≤_}
 use mathlib.Core.Path.{_≡_, refl, sym, ap, ap₂, _∙_, subst}
 use mathlib.Core.Logic.{_≢_, _⊎_, inl, inr}
-use mathlib.Core.Bool.{Bool, true, false, cond, not, _&&_}
+use mathlib.Core.Bool.{true≢false, Bool, true, false, cond, not, _&&_}
 use mathlib.Core.List.{List, [], _∷_, _++_}
 use native.Mathlib.Omega.{arith}
 use lib.Bits.{bitXor}
 use lib.Dec.{eqb, ltb}
-use lib.ListN.{length, take}
+use lib.ListN.{length}
 use borrow.Author.Tests.{eq-eqb, ne-eqb, le-ltb}
 use Rattle.bits.specs.Words.{wordAt, Store, store, after}
 use Rattle.image.specs.declared.Layout.{Layout}
 use Rattle.image.specs.Layout.{layoutOf, pairsIn}
 use Rattle.image.proofs.Answers.{check-good, check-0}
+use Rattle.frames.specs.declared.Command.{Command}
 use Rattle.frames.specs.declared.Order.{Order}
 use Rattle.frames.specs.declared.Order.the-variants as order
 use Rattle.frames.specs.Message.{Message}
@@ -20,12 +21,14 @@ use Rattle.frames.specs.Message as heard
 use Rattle.frames.specs.Frames.{span, heardOf}
 use Rattle.replies.specs.declared.Reply.{Reply}
 use Rattle.replies.specs.declared.Reply.the-variants as reply
-use Rattle.replies.specs.Replies.{replyBits, replyLength, replyBytes}
+use Rattle.replies.specs.Replies.{replyBits, replyLength}
+use Rattle.replies.specs.Steps.{replyBytes}
 use Rattle.replies.specs.Pack.{packed}
 use Rattle.replies.proofs.Laws.{length-reply}
 use Rattle.rights.specs.Rights.{bankOf, spanWords}
 use Rattle.rights.specs.declared.Code.{Code}
 use Rattle.rights.specs.declared.Code.the-variants as code
+use Rattle.rights.specs.declared.Fault.the-variants as fault
 use Rattle.stores.specs.Stores.{changeStores}
 use Rattle.states.specs.declared.Cover.the-variants as cover
 use Rattle.states.specs.declared.Half.{Half}
@@ -36,17 +39,22 @@ use Rattle.tag.specs.declared.Register.{Register}
 use Rattle.states.specs.declared.State.{State}
 use Rattle.states.specs.declared.State.the-variants as state
 use Rattle.tag.specs.declared.Session.{Session}
-use Rattle.tag.specs.Session.{offSession, on}
-use Rattle.tag.specs.Result.{Result, leaves, gives}
-use Rattle.states.specs.Commands.{asksOf, linkOf, isCovered, isKilled, wrong, wrongCommand, breaks, accessWord, isLinked}
+use Rattle.tag.specs.Session.{on}
+use Rattle.tag.specs.Result.{Result, leaves, lost, firstOf}
+use Rattle.tag.specs.Steps.{gives, input}
+use Rattle.states.specs.Commands.{asksOf, linkOf, isCovered, isKilled, breaks, accessWord, isLinked}
+use Rattle.states.specs.Steps.{wrongCommand}
+use Rattle.states.specs.Commands as wide
+use Rattle.states.specs.declared.Who.{Who}
+use Rattle.states.specs.declared.Who.the-variants as who
 use Rattle.plans.specs.Effects.{Effect, effectOf}
-use Rattle.tag.specs.Table.{Input, input, malformed, checksumWrong, broken, comes, effect, isError, replyOr, replyOf, storesOf, fits, replied, rows, frameOf, admitOf}
+use Rattle.tag.specs.Table.{Input, refusedBy, commandIn, scene, effect, isError, replyOr, replyOf, fits, frameOf, admitOf}
 use Rattle.demands.specs.Facts.{marked}
 use Rattle.demands.proofs.Rights.{marked-words, marked-every}
 use Rattle.demands.proofs.Terms.{terms-so}
 use Rattle.tag.specs.Port.{badCount, badData, refusals, withKilled, withUnwritten, someUnwritten, writtenWords, readBits, portWords, askOf, releaseOf, registerOf, readOf, writeOf}
 use Rattle.demands.specs.Calls.{answerOf, Idle}
-use Rattle.demands.specs.Commands.{Air, hears, linked, link, done, Does, Radio, NoImage, Transfers, Demand2}
+use Rattle.demands.specs.Commands.{Air, answersTo, linked, link, obeyed, Does, Radio, NoImage, Transfers, Demand2}
 use Rattle.demands.proofs.Rows.{Rows, None, none-first}
 use Rattle.demands.proofs.Cuts.{started-so}
 use Rattle.demands.proofs.Codes.{and-false, read-clear, write-clear, lock-clear, perma-read-clear, perma-clear}
@@ -86,7 +94,7 @@ module _ (a : Air) (st : State) (r : Register) (idle : Idle (layoutOf (a .image)
       }
 
   -- and by the reply's bits
-  given-done : (rp : Reply) (st′ : State) (ws : List Store) → given rp st′ ws ≡ done (layoutOf (a .image)) a r st′ rp ws
+  given-done : (rp : Reply) (st′ : State) (ws : List Store) → given rp st′ ws ≡ obeyed (layoutOf (a .image)) a r (record { state = st′; reply = rp; words = ws })
   unfolding given
   given-done rp st′ ws =
       let ss = changeStores (layoutOf (a .image) .work .at) ws in
@@ -99,46 +107,52 @@ module _ (a : Air) (st : State) (r : Register) (idle : Idle (layoutOf (a .image)
   fitting : (rp : Reply) → replyBytes rp ≤ length (a .room) → fits rp (a .room) ≡ true
   fitting rp l = ap not (le-ltb (length (a .room)) (replyBytes rp) l)
 
-  module _ (x : Message) (h : heardOf (a .frame) (a .bits) ≡ x) (m : malformed x ≡ false) (k : checksumWrong (a .frame) (a .bits) x ≡ false)
-      (w : wrong st x ≡ false) (b : broken handed x ≡ false) (e : comes handed x .code ≡ code.Nothing)
-      (room : replyBytes (comes handed x .reply) ≤ length (a .room)) (power : length (changeStores (layoutOf (a .image) .work .at) (comes handed x .words)) ≤ a .power) where
-    effect-is : effect handed ≡ comes handed x
-    unfolding handed
-    effect-is = ap (comes handed) h
+  module _ (c : Command) (h : heardOf (a .frame) (a .bits) ≡ heard.said c) (w : wrongCommand st c ≡ false)
+      (b : breaks (layoutOf (a .image)) (a .image) (linkOf st) (linkOf st .half) (asksOf (c .order) .part) ≡ false)
+      (e : effectOf (scene handed) (c .order) .code ≡ code.Nothing) (room : replyBytes (effectOf (scene handed) (c .order) .reply) ≤ length (a .room))
+      (power : length (changeStores (layoutOf (a .image) .work .at) (effectOf (scene handed) (c .order) .words)) ≤ a .power) where
+    comes : Effect
+    comes = effectOf (scene handed) (c .order)
 
-    reply-is : replyOf handed ≡ comes handed x .reply
-    unfolding handed
+    effect-is : effect handed ≡ comes
+    unfolding handed comes
+    effect-is = ap (λ (x : Message). effectOf (scene handed) (commandIn x .order)) h
+
+    reply-is : replyOf handed ≡ comes .reply
+    unfolding handed comes
     reply-is =
         ap (λ (z : Effect). replyOr (z .code) (linkOf st .handle) (z .reply)) effect-is
-        ∙ ap (λ (c : Code). replyOr c (linkOf st .handle) (comes handed x .reply)) e
+        ∙ ap (λ (c : Code). replyOr c (linkOf st .handle) (comes .reply)) e
 
     code-is : effect handed .code ≡ code.Nothing
+    unfolding comes
     code-is = ap (λ (z : Effect). z .code) effect-is ∙ e
 
     fits-is : fits (replyOf handed) (a .room) ≡ true
-    fits-is = ap (λ (q : Reply). fits q (a .room)) reply-is ∙ fitting (comes handed x .reply) room
+    unfolding comes
+    fits-is = ap (λ (q : Reply). fits q (a .room)) reply-is ∙ fitting (comes .reply) room
 
-    none : None (rows handed)
-    unfolding handed
+    none : None (frameOf changeStores handed .rows)
+    unfolding frameOf handed comes
     none =
-        let c = check-0 (a .image) (layoutOf (a .image)) (sym (idle .sound)) in (
-          c .0,
+        let i = check-0 (a .image) (layoutOf (a .image)) (sym (idle .sound)) in (
+          i .0,
           (
-            c .1,
+            i .1,
             (
-              c .2,
+              i .2,
               (
                 ap not (eq-eqb _ _ (idle .nothing)),
                 (
                   refl,
                   (
-                    ap malformed h ∙ m,
+                    ap (refusedBy 7) h,
                     (
-                      ap (checksumWrong (a .frame) (a .bits)) h ∙ k,
+                      ap (refusedBy 8) h,
                       (
-                        ap (wrong st) h ∙ w,
+                        ap (λ (x : Message). wrongCommand st (commandIn x)) h ∙ w,
                         (
-                          ap (broken handed) h ∙ b,
+                          ap (λ (x : Message). breaks (layoutOf (a .image)) (a .image) (linkOf st) (linkOf st .half) (asksOf (commandIn x .order) .part)) h ∙ b,
                           (
                             ap (λ (q : Code). isError q && fits (replyOf handed) (a .room)) code-is,
                             (
@@ -156,12 +170,31 @@ module _ (a : Air) (st : State) (r : Register) (idle : Idle (layoutOf (a .image)
           ),
         )
 
-    last-row : hears answerOf a (on st false r) ≡ given (comes handed x .reply) (comes handed x .state) (comes handed x .words)
+    last-row : answersTo answerOf a (on st false r) ≡ given (comes .reply) (comes .state) (comes .words)
     unfolding frameOf handed given
     last-row =
-        none-first (rows handed) (replied handed 0 (effect handed .state) (storesOf handed)) none
+        none-first (frameOf changeStores handed .rows) (frameOf changeStores handed .done) none
         ∙ ap (λ (q : Reply). given q (effect handed .state) (effect handed .words)) reply-is
-        ∙ ap (λ (z : Effect). given (comes handed x .reply) (z .state) (z .words)) effect-is
+        ∙ ap (λ (z : Effect). given (comes .reply) (z .state) (z .words)) effect-is
+
+-- an order in Secured and Open with the handle is heard, in Open where it does not need Secured
+abbrev pub needsSecured : Who → Bool
+needsSecured who.Everyone = false
+needsSecured who.Admitted = false
+needsSecured who.Linked = false
+needsSecured who.Secured = true
+
+heard-secured : (w : Who) (k : Link) → wide.hears w (state.Secured k) (k .handle) ≡ true
+heard-secured who.Everyone k = refl
+heard-secured who.Admitted k = eq-eqb (k .handle) (k .handle) refl
+heard-secured who.Linked k = eq-eqb (k .handle) (k .handle) refl
+heard-secured who.Secured k = eq-eqb (k .handle) (k .handle) refl
+
+heard-open : (w : Who) (k : Link) → needsSecured w ≡ false → wide.hears w (state.Open k) (k .handle) ≡ true
+heard-open who.Everyone k e = refl
+heard-open who.Admitted k e = eq-eqb (k .handle) (k .handle) refl
+heard-open who.Linked k e = eq-eqb (k .handle) (k .handle) refl
+heard-open who.Secured k e = absurd (true≢false e)
 
 -- an order that is heard, for the tag, whose halves are not broken and to which no code applies
 module _ (a : Air) (r : Register) (idle : Idle (layoutOf (a .image)) (a .image)) where
@@ -175,47 +208,49 @@ module _ (a : Air) (r : Register) (idle : Idle (layoutOf (a .image)) (a .image))
 
   order-done : (st : State) (n : ℕ) (o : Order) → wrongCommand st (record { number = n; order = o }) ≡ false
       → breaks (layoutOf (a .image)) (a .image) (linkOf st) (linkOf st .half) (asksOf o .part) ≡ false → at st o .code ≡ code.Nothing → Comes n o st
-  unfolding handed given at Comes
+  unfolding handed given comes at Comes
   order-done st n o w b e says enough =
-      last-row a st r idle (heard.said (record { number = n; order = o })) (says .heard) refl (ap not (says .right)) w b e (in-bytes a st r idle (at st o .reply) (enough .0)) (enough .1)
+      last-row a st r idle (record { number = n; order = o }) says w b e (in-bytes a st r idle (at st o .reply) (enough .0)) (enough .1)
       ∙ given-done a st r idle (at st o .reply) (at st o .state) (at st o .words)
 
   secured-done : (k : Link) (o : Order) → asksOf o .cover && not (isCovered (k .cover)) ≡ false → asksOf o .bad ≡ false
       → breaks (layoutOf (a .image)) (a .image) k (k .half) (asksOf o .part) ≡ false → at (state.Secured k) o .code ≡ code.Nothing → Comes (k .handle) o (state.Secured k)
-  secured-done k o c d b e = order-done (state.Secured k) (k .handle) o (rw (eq-eqb (k .handle) (k .handle) refl, c, d)) b e
+  secured-done k o c d b e = order-done (state.Secured k) (k .handle) o (rw (heard-secured (asksOf o .who) k, c, d)) b e
 
-  open-done : (k : Link) (o : Order) → asksOf o .secured ≡ false → asksOf o .cover && not (isCovered (k .cover)) ≡ false → asksOf o .bad ≡ false
+  open-done : (k : Link) (o : Order) → needsSecured (asksOf o .who) ≡ false → asksOf o .cover && not (isCovered (k .cover)) ≡ false → asksOf o .bad ≡ false
       → breaks (layoutOf (a .image)) (a .image) k (k .half) (asksOf o .part) ≡ false → at (state.Open k) o .code ≡ code.Nothing → Comes (k .handle) o (state.Open k)
-  open-done k o s c d b e = order-done (state.Open k) (k .handle) o (rw (s, eq-eqb (k .handle) (k .handle) refl, c, d)) b e
+  open-done k o s c d b e = order-done (state.Open k) (k .handle) o (rw (heard-open (asksOf o .who) k s, c, d)) b e
 
-  unbroken : (k : Link) (p : Half) → breaks (layoutOf (a .image)) (a .image) k p part.Number ≡ false
+  unbroken : (k : Link) (p : Half) → breaks (layoutOf (a .image)) (a .image) k p part.Between ≡ false
   unbroken k half.Nothing = refl
   unbroken k (half.Access up) = refl
   unbroken k (half.Kill up) = refl
 
-  nak-done : (st : State) → st ≢ state.Killed → heardOf (a .frame) (a .bits) ≡ heard.nak → hears answerOf a (on st false r) ≡ done (layoutOf (a .image)) a r state.Arbitrate reply.Silence []
-  unfolding handed given
-  nak-done st k e = last-row a st r idle heard.nak e refl refl (not-killed st k) refl refl (omega arith) (omega arith)
+  nak-done : (st : State) → st ≢ state.Killed → Comes 0 order.Nak st
+  unfolding at
+  nak-done st k = order-done st 0 order.Nak (rw (not-killed st k)) (unbroken (linkOf st) (linkOf st .half)) refl
 
   some : (n : ℕ) → 1 ≤ n → eqb n 0 ≡ false
   some n l = ne-eqb n 0 (λ e. omega arith)
 
   -- the state that Req_RN opens, by the access password; and words of a Read
   numbered-so : Bool → Result
-  numbered-so t = done (layoutOf (a .image)) a r (cond t (state.Secured (link (a .fresh) cover.Nothing half.Nothing)) (state.Open (link (a .fresh) cover.Nothing half.Nothing))) (reply.Number (a .fresh)) []
+  numbered-so t =
+      let k = link (a .fresh) cover.Nothing half.Nothing in
+      obeyed (layoutOf (a .image)) a r (record { state = cond t (state.Secured k) (state.Open k); reply = reply.Number (a .fresh); words = [] })
 
   nonzero : (u v : ℕ) → (u ≢ 0) ⊎ (v ≢ 0) → eqb u 0 && eqb v 0 ≡ false
   nonzero u v (inl d) = ap (λ (t : Bool). t && eqb v 0) (ne-eqb u 0 d)
   nonzero u v (inr d) = ap (λ (t : Bool). eqb u 0 && t) (ne-eqb v 0 d) ∙ and-false (eqb u 0)
 
-  words-read : (b p n k : ℕ) → ((1 ≤ n) × (k ≡ n)) ⊎ ((n ≡ 0) × (p + k ≡ bankOf (layoutOf (a .image)) b .words)) → spanWords (bankOf (layoutOf (a .image)) b) (span b p n) ≡ k
+  words-read : (b p n k : ℕ) → ((1 ≤ n) × (k ≡ n)) ⊎ ((n ≡ 0) × (p + k ≡ bankOf (layoutOf (a .image)) b .words)) → spanWords (layoutOf (a .image)) (a .image) (span b p n) ≡ k
   words-read b p n k (inl d) = ap (λ (t : Bool). cond t (bankOf (layoutOf (a .image)) b .words - p) n) (ne-eqb n 0 (omega (arith, d .0))) ∙ sym (d .1)
   words-read b p n k (inr d) =
       ap (λ (t : Bool). cond t (bankOf (layoutOf (a .image)) b .words - p) n) (eq-eqb n 0 (d .0)) ∙ (let z = d .1 in omega (arith, z))
 
   -- a kill password, and a right one
-  no-code : {b : Bool} → b ≡ false → cond b (code.Error 0x00) code.Nothing ≡ code.Nothing
-  no-code e = ap (λ (t : Bool). cond t (code.Error 0x00) code.Nothing) e
+  no-code : {b : Bool} → b ≡ false → cond b (code.Error fault.Other) code.Nothing ≡ code.Nothing
+  no-code e = ap (λ (t : Bool). cond t (code.Error fault.Other) code.Nothing) e
 
   right : (up low u v : ℕ) → up ≡ u → low ≡ v → not (eqb up u && eqb low v) ≡ false
   right up low u v i j = ap not (ap₂ _&&_ (eq-eqb up u i) (eq-eqb low v j))
@@ -292,7 +327,7 @@ module _ (m : List ℕ) (st : State) (r : Register) (idle : Idle (layoutOf m) m)
 
   -- a read past its refusals, of a tag that is killed or is not
   engine-read : (k : Bool) (at n : ℕ) (room : List ℕ) → isKilled st ≡ k → 1 ≤ n → n ≤ 255 → at + n ≤ layoutOf m .user .words → 2 * n ≤ length room
-      → readOf (on st true r) m at n room ≡ gives 0 (on st true (cond k (withKilled r) r)) (16 * n) 0 m (packed (readBits (layoutOf m) m k at n) room)
+      → firstOf (readOf (on st true r) m at n room) ≡ gives 0 (on st true (cond k (withKilled r) r)) (16 * n) 0 m (packed (readBits (layoutOf m) m k at n) room)
   unfolding readOf holder
   engine-read k at n room e a b c d =
       let row : Rows = (leaves 4 (on st true r) m room, ltb (length room) (2 * n)) ∷ [] in
@@ -308,7 +343,7 @@ module _ (m : List ℕ) (st : State) (r : Register) (idle : Idle (layoutOf m) m)
         gives 0 (on st true (cond k (withKilled r) (withUnwritten (someUnwritten (layoutOf m) m at n) r))) 0 (length ss) (after m ss) []
 
     engine-write : (k : Bool) (ws : List Store) → isKilled st ≡ k → portWords (layoutOf m) m k at d ≡ ws → length (changeStores (layoutOf m .work .at) ws) ≤ s
-        → writeOf (on st true r) m at d s ≡ written k ws
+        → firstOf (writeOf changeStores (on st true r) m at d s) ≡ written k ws
     unfolding writeOf holder written
     engine-write k ws e f l =
         let y = layoutOf m in
@@ -316,7 +351,7 @@ module _ (m : List ℕ) (st : State) (r : Register) (idle : Idle (layoutOf m) m)
         let even : length d % 2 ≡ 0 = omega (arith, size) in
         let words : portWords y m (isKilled st) at d ≡ ws = ap (λ (t : Bool). portWords y m t at d) e ∙ f in
         let stores = changeStores (y .work .at) (portWords y m (isKilled st) at d) in
-        let row : Rows = (gives 11 offSession 0 s (after m (take s stores)) [], ltb s (length stores)) ∷ [] in
+        let row : Rows = (lost m stores s [], ltb s (length stores)) ∷ [] in
         let bad : badData y at d ≡ false = rw (eq-eqb (length d % 2) 0 even, half, count-good at n a b c, le-ltb (pairsIn y) n few) in
         none-first (refusals holder m [] (badData y at d) ++ row) _
         (past [] (badData y at d) row bad (le-ltb s (length stores) (subst (λ (x : List Store). length (changeStores (y .work .at) x) ≤ s) (sym words) l), tt))

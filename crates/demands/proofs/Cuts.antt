@@ -23,14 +23,15 @@ use Rattle.stores.proofs.Changes.{change-needs, power-idle, power-some}
 use Rattle.stores.proofs.Sane.{crc-same, good-sane}
 use Rattle.stores.proofs.Cuts.{cuts, power-good, power-word, power-settles}
 use Rattle.tag.specs.Session.{offSession, newSession}
-use Rattle.tag.specs.Result.{Result}
-use Rattle.tag.specs.Power.{poweredTo, firstIn, powerUpOf}
+use Rattle.tag.specs.Result.{Result, firstOf}
+use Rattle.tag.specs.Power.{powerUpOf}
 use Rattle.demands.specs.Calls.{Tag, answerOf, wordsIn, torn}
 use Rattle.demands.specs.Commands.{Start}
 use Rattle.demands.specs.Demands.{Storing, byRadio, byPort, lasting, Completes, powerUps, Unbroken, Survives, Demand3}
 use Rattle.demands.proofs.Plans.{plan-change}
 use Rattle.demands.proofs.Rows.{Refused, Acting, wordsOf, acts, words-lasting}
 use Rattle.demands.proofs.Rising.{rising}
+use Rattle.tag.specs.Steps.{gives, firstIn}
 
 -- a power-up of a good image
 module _ (y : Layout) (m : List ℕ) (g : Good y m) where
@@ -38,16 +39,16 @@ module _ (y : Layout) (m : List ℕ) (g : Good y m) where
   stores = powerStores (layoutOf m) m
 
   lost : ℕ → Result
-  lost s = poweredTo 11 offSession s (after m (take s stores))
+  lost s = gives 11 offSession 0 s (after m (take s stores)) []
 
   made : Result
-  made = poweredTo 0 (newSession (firstIn (layoutOf m) (after m stores))) (length stores) (after m stores)
+  made = gives 0 (newSession (firstIn (layoutOf m) (after m stores))) 0 (length stores) (after m stores) []
 
-  power-ends : (s : ℕ) → powerUpOf m s ≡ cond (ltb s (length stores)) (lost s) made
+  power-ends : (s : ℕ) → firstOf (powerUpOf m s) ≡ cond (ltb s (length stores)) (lost s) made
   unfolding powerUpOf stores lost made
   power-ends s = let h = check-0 m y (sym (good-check y m g)) in rw (h .0, h .1, h .2)
 
-  pub power-image : (s : ℕ) → powerUpOf m s .image ≡ after m (take s (powerStores (layoutOf m) m))
+  pub power-image : (s : ℕ) → firstOf (powerUpOf m s) .image ≡ after m (take s (powerStores (layoutOf m) m))
   unfolding stores lost made
   power-image s = ap (λ (r : Result). r .image) (power-ends s) ∙ go (decLt s (length stores))
     where
@@ -57,11 +58,11 @@ module _ (y : Layout) (m : List ℕ) (g : Good y m) where
           let h : length stores ≤ s = omega arith in
           ap (λ (t : Bool). cond t (lost s) made .image) (le-ltb s (length stores) h) ∙ ap (after m) (sym (take-all s stores h))
 
-  pub power-whole : (s : ℕ) → powerUpOf m s .number ≡ 0 → powerUpOf m s .image ≡ powerUp m
+  pub power-whole : (s : ℕ) → firstOf (powerUpOf m s) .number ≡ 0 → firstOf (powerUpOf m s) .image ≡ powerUp m
   unfolding stores lost made
   power-whole s e = go (decLt s (length stores))
     where
-      go : Dec (s < length stores) → powerUpOf m s .image ≡ after m stores
+      go : Dec (s < length stores) → firstOf (powerUpOf m s) .image ≡ after m stores
       go (yes l) =
           absurd
           (let z : _≡_ {A = ℕ} 11 0 = sym (ap (λ (t : Bool). cond t (lost s) made .number) (lt-ltb s (length stores) l)) ∙ sym (ap (λ (r : Result). r .number) (power-ends s)) ∙ e in
@@ -69,19 +70,19 @@ module _ (y : Layout) (m : List ℕ) (g : Good y m) where
       go (no l) = ap (λ (r : Result). r .image) (power-ends s) ∙ ap (λ (t : Bool). cond t (lost s) made .image) (le-ltb s (length stores) (omega arith))
 
   pub power-done : (s : ℕ) → length (powerStores (layoutOf m) m) ≤ s
-      → powerUpOf m s ≡ poweredTo 0 (newSession (firstIn (layoutOf m) (powerUp m))) (length (powerStores (layoutOf m) m)) (powerUp m)
+      → firstOf (powerUpOf m s) ≡ gives 0 (newSession (firstIn (layoutOf m) (powerUp m))) 0 (length (powerStores (layoutOf m) m)) (powerUp m) []
   unfolding stores made
   power-done s l = power-ends s ∙ ap (λ (t : Bool). cond t (lost s) made) (le-ltb s (length stores) l)
 
-  pub power-fails : (s : ℕ) → s < length (powerStores (layoutOf m) m) → powerUpOf m s .number ≡ 11
+  pub power-fails : (s : ℕ) → s < length (powerStores (layoutOf m) m) → firstOf (powerUpOf m s) .number ≡ 11
   unfolding stores lost made
   power-fails s l = ap (λ (r : Result). r .number) (power-ends s) ∙ ap (λ (t : Bool). cond t (lost s) made .number) (lt-ltb s (length stores) l)
 
-  pub power-made : (s : ℕ) → powerUpOf m s .number ≡ 0 → powerUpOf m s .stores ≡ length (powerStores (layoutOf m) m)
+  pub power-made : (s : ℕ) → firstOf (powerUpOf m s) .number ≡ 0 → firstOf (powerUpOf m s) .stores ≡ length (powerStores (layoutOf m) m)
   unfolding stores lost made
   power-made s e = go (decLt s (length stores))
     where
-      go : Dec (s < length stores) → powerUpOf m s .stores ≡ length stores
+      go : Dec (s < length stores) → firstOf (powerUpOf m s) .stores ≡ length stores
       go (yes l) = absurd (let z : _≡_ {A = ℕ} 11 0 = sym (power-fails s l) ∙ e in omega arith)
       go (no l) = ap (λ (r : Result). r .stores) (power-ends s) ∙ ap (λ (t : Bool). cond t (lost s) made .stores) (le-ltb s (length stores) (omega arith))
 
@@ -137,7 +138,7 @@ module _ (y : Layout) (t : Tag) (c : Storing) (n enough : ℕ) (h : Completes an
     left-good : Good y left
     left-good = subst (Good y) (sym left-image) (laws .good f fs)
 
-    left-word : (j i : ℕ) → powerUpOf left j .number ≡ 0 → wordAt (powerUpOf left j .image) i ≡ wordAt (powerUp (cutImage y (t .image) ws f fs)) i
+    left-word : (j i : ℕ) → firstOf (powerUpOf left j) .number ≡ 0 → wordAt (firstOf (powerUpOf left j) .image) i ≡ wordAt (powerUp (cutImage y (t .image) ws f fs)) i
     left-word j i z = ap (λ (x : List ℕ). wordAt x i) (power-whole y left left-good j z ∙ ap powerUp left-image)
 
   -- the command done, as a cut behind its last store
@@ -150,15 +151,15 @@ module _ (y : Layout) (t : Tag) (c : Storing) (n enough : ℕ) (h : Completes an
       ∙ ap (withByte 0 (after (t .image) (take (suc enough) all)))
       (ap (after (t .image)) (take-all (suc enough) all (omega (arith, whole)) ∙ sym (take-all enough all whole)))
 
-  done-word : (k i : ℕ) → i < y .work .at → powerUpOf (answerOf t (lasting c enough) .image) k .number ≡ 0
-      → wordAt (powerUpOf (answerOf t (lasting c enough) .image) k .image) i ≡ wordAt (powerUp (after (t .image) ws)) i
+  done-word : (k i : ℕ) → i < y .work .at → firstOf (powerUpOf (answerOf t (lasting c enough) .image) k) .number ≡ 0
+      → wordAt (firstOf (powerUpOf (answerOf t (lasting c enough) .image) k) .image) i ≡ wordAt (powerUp (after (t .image) ws)) i
   done-word k i l z =
       let d : Cut = record { whole = enough; byte = 0 } in
       ap (λ (x : List ℕ). wordAt x i) (power-whole y _ (subst (Good y) (sym done) (laws .good d [])) k z ∙ ap powerUp done)
       ∙ laws .new d [] (omega (arith, needs, words, whole)) i l
 
   -- a good image has a whole power-up
-  begins : (m : List ℕ) → Good y m → (u : ℕ) → 257 ≤ u → powerUpOf m u .number ≡ 0
+  begins : (m : List ℕ) → Good y m → (u : ℕ) → 257 ≤ u → firstOf (powerUpOf m u) .number ≡ 0
   begins m k u l =
       let few : length (powerStores (layoutOf m) m) ≤ u = subst (λ (z : Layout). length (powerStores z m) ≤ u) (k .layout) (omega (arith, l, power-needs y m k)) in
       ap (λ (r : Result). r .number) (power-done y m k u few)
@@ -219,7 +220,7 @@ started-so y m e = subst (λ (z : Layout). Start answerOf z m (after m (powerSto
     here : Start answerOf (layoutOf m) m n
     here =
         record {
-          up = λ s l. power-done (layoutOf m) m g s l;
+          up = λ v s l. power-done (layoutOf m) m g s l;
           enough = power-needs (layoutOf m) m g;
           words = other;
           settled = power-settles (layoutOf m) m g;

@@ -1,9 +1,9 @@
 -- What a frame's bits say, from the definitions of `frames` and `ebv`. Assumes nothing.
 use Prim.Native.Nat.{ℕ, _+_, _-_, _*_, _≤_, _<_}
-use mathlib.Core.Path.{_≡_, refl, ap, _∙_}
+use mathlib.Core.Path.{_≡_, refl, ap, ap₂, _∙_}
 use mathlib.Core.Logic.{_⊎_, inl, inr}
-use mathlib.Core.Bool.{Bool, true, false, cond}
-use mathlib.Core.List.{List, []}
+use mathlib.Core.Bool.{Bool, true, false, cond, not}
+use mathlib.Core.List.{List}
 use native.Mathlib.Omega.{arith}
 use lib.Dec.{eqb, ltb}
 use lib.ListN.{length}
@@ -12,10 +12,10 @@ use Rattle.bits.specs.Bits.{fieldAt}
 use Rattle.ebv.specs.Ebv.{Read, groups, pointerAt}
 use Rattle.ebv.specs.Ebv as pointer
 use Rattle.frames.specs.declared.Order.{Order}
-use Rattle.frames.specs.declared.Order.the-variants as order
 use Rattle.frames.specs.Message.{Message}
 use Rattle.frames.specs.Message as heard
-use Rattle.frames.specs.Frames.{exactly, pointed, reqRnOf, readOf, writeOf, killOf, lockOf, accessOf, blockWriteOf, blockEraseOf, permalockOf, heardOf}
+use Rattle.frames.specs.Frames.{checksumRight, exactly, pointed, readFrame, writeFrame, blockWriteFrame, blockEraseFrame, permalockFrame, heardOf}
+use Rattle.frames.specs.Steps.{reqRnFrame, killFrame, lockFrame, accessFrame}
 use Rattle.demands.specs.Fields.{Takes, After, Coded, Groups, Fields}
 
 chosen : (m x y : Message) (b t : Bool) → m ≡ cond b x y → b ≡ t → m ≡ cond t x y
@@ -23,12 +23,16 @@ chosen m x y b t h e = h ∙ ap (λ (s : Bool). cond s x y) e
 
 module _ (f : List ℕ) (n : ℕ) where
   takes : (k : ℕ) (o : Order) → heardOf f n ≡ exactly f n k o → Takes f n k o
-  takes k o h = (
-    λ e. h
-        ∙ ap (λ (t : Bool). cond t (heard.said (record { number = fieldAt f (n - 32) 16; order = o })) (heard.refused 7)) (eq-eqb n k e)
-        ∙ ap (λ (x : ℕ). heard.said (record { number = fieldAt f (x - 32) 16; order = o })) e,
-    λ d. h ∙ ap (λ (t : Bool). cond t (heard.said (record { number = fieldAt f (n - 32) 16; order = o })) (heard.refused 7)) (ne-eqb n k d),
-  )
+  unfolding checksumRight
+  takes k o h =
+      record {
+        right = λ e c. h ∙ ap₂ by (eq-eqb n k e) (eq-eqb _ _ c) ∙ ap (λ (x : ℕ). heard.said (record { number = fieldAt f (x - 32) 16; order = o })) e;
+        length = λ d. h ∙ ap (λ (t : Bool). by t (checksumRight f n)) (ne-eqb n k d);
+        checksum = λ e c. h ∙ ap₂ by (eq-eqb n k e) (ne-eqb _ _ c);
+      }
+    where
+      by : Bool → Bool → Message
+      by t u = cond (not t) (heard.refused 7) (cond (not u) (heard.refused 8) (heard.said (record { number = fieldAt f (n - 32) 16; order = o })))
 
   follows : (i : ℕ) (g : ℕ → ℕ → Message) (P : ℕ → ℕ → Type 0) → heardOf f n ≡ pointed (pointerAt f n i) g → ((p e : ℕ) → heardOf f n ≡ g p e → P p e) → After f n i P
   follows i g P h q = (λ p e d. q p e (h ∙ ap (λ (r : Read). pointed r g) d), λ d. h ∙ ap (λ (r : Read). pointed r g) d)
@@ -54,19 +58,19 @@ module _ (f : List ℕ) (n : ℕ) where
     coded-so =
         record {
           nak = λ c. (λ e. rw (few, some, c, eq-eqb n 8 e), λ d. rw (few, some, c, ne-eqb n 8 d));
-          req-rn = λ c. let h : heardOf f n ≡ reqRnOf f n = rw (few, some, c) in takes _ _ h;
-          read = λ c. let h : heardOf f n ≡ readOf f n = rw (few, some, c) in follows 10 _ _ h (λ p e h. takes _ _ h);
-          write = λ c. let h : heardOf f n ≡ writeOf f n = rw (few, some, c) in follows 10 _ _ h (λ p e h. takes _ _ h);
-          kill = λ c. let h : heardOf f n ≡ killOf f n = rw (few, some, c) in takes _ _ h;
-          lock = λ c. let h : heardOf f n ≡ lockOf f n = rw (few, some, c) in takes _ _ h;
-          access = λ c. let h : heardOf f n ≡ accessOf f n = rw (few, some, c) in takes _ _ h;
-          block-write = λ c. let h : heardOf f n ≡ blockWriteOf f n = rw (few, some, c) in follows 10 _ _ h (λ p e h. takes _ _ h);
-          block-erase = λ c. let h : heardOf f n ≡ blockEraseOf f n = rw (few, some, c) in follows 10 _ _ h (λ p e h. takes _ _ h);
+          req-rn = λ c. let h : heardOf f n ≡ reqRnFrame f n = rw (few, some, c) in takes _ _ h;
+          read = λ c. let h : heardOf f n ≡ readFrame f n = rw (few, some, c) in follows 10 _ _ h (λ p e h. takes _ _ h);
+          write = λ c. let h : heardOf f n ≡ writeFrame f n = rw (few, some, c) in follows 10 _ _ h (λ p e h. takes _ _ h);
+          kill = λ c. let h : heardOf f n ≡ killFrame f n = rw (few, some, c) in takes _ _ h;
+          lock = λ c. let h : heardOf f n ≡ lockFrame f n = rw (few, some, c) in takes _ _ h;
+          access = λ c. let h : heardOf f n ≡ accessFrame f n = rw (few, some, c) in takes _ _ h;
+          block-write = λ c. let h : heardOf f n ≡ blockWriteFrame f n = rw (few, some, c) in follows 10 _ _ h (λ p e h. takes _ _ h);
+          block-erase = λ c. let h : heardOf f n ≡ blockEraseFrame f n = rw (few, some, c) in follows 10 _ _ h (λ p e h. takes _ _ h);
           permalock-read = λ c z.
-              let h : heardOf f n ≡ permalockOf f n = rw (few, some, c) in
+              let h : heardOf f n ≡ permalockFrame f n = rw (few, some, c) in
               follows 19 _ _ h (λ p e h. takes _ _ (chosen _ _ _ _ true h (eq-eqb (fieldAt f 16 1) 0 z)));
           permalock = λ c z.
-              let h : heardOf f n ≡ permalockOf f n = rw (few, some, c) in
+              let h : heardOf f n ≡ permalockFrame f n = rw (few, some, c) in
               follows 19 _ _ h (λ p e h. takes _ _ (chosen _ _ _ _ false h (ne-eqb (fieldAt f 16 1) 0 z)));
           unknown = unknown-so;
         }

@@ -7,6 +7,7 @@ pub mod Runs
 pub mod Whole
 pub mod Rights
 pub mod Fields
+pub mod Images
 pub mod Terms
 pub mod Codes
 pub mod Tables

@@ -157,6 +157,7 @@ module _ (y : Layout) (m : List ℕ) (g : Good y m) where
       → effectOf (record { layout = y; image = m; state = st; frame = f; fresh = fresh }) o .code ≡ code.Nothing
       → Plan y m (effectOf (record { layout = y; image = m; state = st; frame = f; fresh = fresh }) o .words)
   unfolding lockedTo at
+  order-plan st f fresh order.Nak h e = no-plan y m
   order-plan st f fresh order.ReqRn h e = no-plan y m
   order-plan st f fresh (order.Read s) h e = no-plan y m
   order-plan st f fresh (order.Write s w) h e =

@@ -2,22 +2,23 @@
 use Prim.Native.Nat.{ℕ, zero, suc, _+_, _-_, _*_, _/_, _%_, _≤_, _<_}
 use mathlib.Core.Path.{_≡_, refl, sym, ap, ap₂, _∙_, subst}
 use mathlib.Core.Logic.{_≢_, _⊎_, inl, inr}
-use mathlib.Core.Bool.{true≢false, Bool, true, false, cond, not, _&&_, _||_}
+use mathlib.Core.Bool.{Bool, true, false, cond, not, _&&_, _||_}
 use mathlib.Core.List.{List, [], _∷_, _++_}
 use native.Mathlib.Omega.{arith}
 use lib.Bits.{bitXor}
 use lib.Dec.{eqb, ltb}
 use lib.ListN.{length, drop}
 use borrow.Author.Tests.{eq-eqb, ne-eqb, le-ltb, lt-ltb}
-use Rattle.bits.specs.Words.{after}
 use Rattle.bits.specs.Bits.{fieldAt}
 use Rattle.bits.specs.First.{first}
 use Rattle.image.specs.declared.Layout.{Layout}
 use Rattle.image.specs.Layout.{layoutOf, pairsIn}
 use Rattle.image.specs.Content.{countIn}
-use Rattle.image.specs.Check.{checkOf, refused, good, short, headerWrong, contentBroken, imageRows}
+use Rattle.image.specs.Check.{checkOf, refused, good, imageRows}
+use Rattle.image.specs.Steps.{short, headerWrong, contentBroken}
 use Rattle.image.proofs.Answers.{check-good, check-0}
 use Rattle.frames.specs.declared.Span.{Span}
+use Rattle.frames.specs.declared.Command.{Command}
 use Rattle.frames.specs.declared.Order.{Order}
 use Rattle.frames.specs.declared.Order.the-variants as order
 use Rattle.frames.specs.Message.{Message}
@@ -30,7 +31,9 @@ use Rattle.replies.specs.Replies.{replyBits, replyLength}
 use Rattle.replies.specs.Pack.{packed}
 use Rattle.rights.specs.declared.Code.{Code}
 use Rattle.rights.specs.declared.Code.the-variants as code
-use Rattle.rights.specs.Rights.{readCode, writeCode, lockCode, permaReadCode, permaCode}
+use Rattle.rights.specs.declared.Fault.{Fault}
+use Rattle.rights.specs.declared.Fault.the-variants as fault
+use Rattle.rights.specs.Rights.{readCode, writeCode, lockCode, permaReadCode, permaCode, faultNumber}
 use Rattle.stores.specs.Stores.{changeStores}
 use Rattle.states.specs.declared.Cover.{Cover}
 use Rattle.states.specs.declared.Cover.the-variants as cover
@@ -40,26 +43,31 @@ use Rattle.states.specs.declared.Link.{Link}
 use Rattle.states.specs.declared.Part.{Part}
 use Rattle.states.specs.declared.Part.the-variants as part
 use Rattle.states.specs.declared.Asks.{Asks}
+use Rattle.states.specs.declared.Who.{Who}
+use Rattle.states.specs.declared.Who.the-variants as who
+use Rattle.states.specs.Commands as wide
+use Rattle.states.proofs.Gates.{not-admitted, not-linked, not-secured}
 use Rattle.tag.specs.declared.Register.{Register}
-use Rattle.tag.specs.declared.Power.the-variants as power
 use Rattle.states.specs.declared.State.{State}
 use Rattle.states.specs.declared.State.the-variants as state
 use Rattle.tag.specs.declared.Session.{Session}
 use Rattle.tag.specs.Session.{offSession, on}
-use Rattle.tag.specs.Result.{Result, gives, leaves, lost}
-use Rattle.states.specs.Commands.{isArbitrate, isKilled, asksOf, linkOf, isCovered, uncovered, wrong, wrongBy, zeroKill, killWord, breaks, used}
-use Rattle.states.specs.Steps.{asks}
+use Rattle.tag.specs.Result.{Result, leaves, lost}
+use Rattle.states.specs.Commands.{isArbitrate, isKilled, asksOf, linkOf, isCovered, uncovered, wrongBy, zeroKill, killWord, breaks, used}
+use Rattle.states.specs.Steps.{asks, wrongCommand}
 use Rattle.plans.specs.Effects.{Scene, effectOf}
-use Rattle.tag.specs.Table.{Input, input, malformed, checksumWrong, broken, comes, effect, storesOf, isError, replyOr, replyOf, fits, replied, everything, rows, frameOf, liveOf, isOff, admitOf}
-use Rattle.tag.specs.Power.{powerRows, powered, powerUpOf}
-use Rattle.tag.specs.Port.{badCount, badData, refusals, registerTo, withKilled, withUnwritten, someUnwritten, readBits, portWords, askOf, releaseOf, registerOf, readOf, writeOf}
+use Rattle.tag.specs.Table.{Input, broken, effect, isError, replyOr, replyOf, fits, everything, frameOf, liveOf, isOff, admitOf, refusedBy, commandIn, command, scene}
+use Rattle.tag.specs.Power.{powerUpOf}
+use Rattle.tag.specs.Port.{badCount, badData, refusals, portWords, askOf, releaseOf, registerOf, readOf, writeOf}
 use Rattle.demands.specs.Calls.{Call, asked, powerUp, ask, read, write, answerOf, Idle}
-use Rattle.demands.specs.Commands.{Air, hears, linked, link, Says}
+use Rattle.demands.specs.Commands.{Air, answersTo, linked, link, Says}
 use Rattle.demands.proofs.Rows.{Rows, Reaches, rowAt, first-at}
 use Rattle.demands.proofs.Codes.{or-right, and-false}
+use Rattle.demands.proofs.Commands.{needsSecured}
 use Rattle.demands.proofs.Short.{short as too-short}
 use Rattle.demands.proofs.Codes as codes
 use Rattle.demands.specs.Refusals.{stays, drops, errs, Covered, Needs, Other, Brings, OutOfPlace, Dropped, Errors, Locks, NoImageRefused, BadCount, TransferRefused, PortRefused, Refusals}
+use Rattle.tag.specs.Steps.{input}
 
 -- an image that is not good: its number's row, whatever comes after
 image-first : (m : List ℕ) (leaving : ℕ → Result) (more : Rows) (last : Result) (n : ℕ) → checkOf m ≡ refused n → first (imageRows leaving m ++ more) last ≡ leaving n
@@ -76,27 +84,27 @@ image-first m leaving more last n e = go (short m) (headerWrong m) (contentBroke
 
 -- what a frame comes to where no row holds
 last : Input → Result
-last i = replied i 0 (effect i .state) (storesOf i)
+last i = frameOf changeStores i .done
 
 -- an image that is not good, or a session that no frame is heard with
 module _ (a : Air) where
   handed-to : Session → Input
   handed-to s = input s (a .image) (a .frame) (a .bits) (a .fresh) (a .room) (a .power)
 
-  bad-image : (s : Session) (n : ℕ) → checkOf (a .image) ≡ refused n → hears answerOf a s ≡ stays n a s
+  bad-image : (s : Session) (n : ℕ) → checkOf (a .image) ≡ refused n → answersTo answerOf a s ≡ stays n a s
   unfolding frameOf handed-to last
-  bad-image s n e = image-first (a .image) (everything (handed-to s)) (drop 3 (rows (handed-to s))) (last (handed-to s)) n e
+  bad-image s n e = image-first (a .image) (everything (handed-to s)) (drop 3 (frameOf changeStores (handed-to s) .rows)) (last (handed-to s)) n e
 
-  off : (y : Layout) → checkOf (a .image) ≡ good y → hears answerOf a offSession ≡ stays 5 a offSession
+  off : (y : Layout) → checkOf (a .image) ≡ good y → answersTo answerOf a offSession ≡ stays 5 a offSession
   unfolding frameOf
   off y e = let c = check-0 (a .image) y (sym e) in rw (c .0, c .1, c .2)
 
-  pends : (y : Layout) (s : Session) → checkOf (a .image) ≡ good y → countIn y (a .image) ≢ 0 → hears answerOf a s ≡ stays 5 a s
+  pends : (y : Layout) (s : Session) → checkOf (a .image) ≡ good y → countIn y (a .image) ≢ 0 → answersTo answerOf a s ≡ stays 5 a s
   unfolding frameOf handed-to last
   pends y s e n =
       let c = check-0 (a .image) y (sym e) in
       let d : countIn (layoutOf (a .image)) (a .image) ≢ 0 = subst (λ (z : Layout). countIn z (a .image) ≢ 0) (check-good (a .image) y e .layout) n in
-      first-at 3 (rows (handed-to s)) (last (handed-to s)) (
+      first-at 3 (frameOf changeStores (handed-to s) .rows) (last (handed-to s)) (
         c .0,
         (
           c .1,
@@ -107,7 +115,7 @@ module _ (a : Air) where
         ),
       )
 
-  held : (y : Layout) (st : State) (r : Register) → Idle y (a .image) → hears answerOf a (on st true r) ≡ stays 6 a (on st true r)
+  held : (y : Layout) (st : State) (r : Register) → Idle y (a .image) → answersTo answerOf a (on st true r) ≡ stays 6 a (on st true r)
   unfolding frameOf
   held y st r idle =
       let c = check-0 (a .image) y (sym (idle .sound)) in
@@ -132,25 +140,35 @@ module _ (y : Layout) (a : Air) (st : State) (r : Register) (idle : Idle y (a .i
       (c .0, (c .1, (c .2, (ap not (eq-eqb (countIn (layoutOf (a .image)) (a .image)) 0 z), (refl, h)))))
 
   -- the rows from 7 on: 7, 8, 9, 12, and 10
-  row-7 : (k : ℕ) → heardOf (a .frame) (a .bits) ≡ heard.refused k → hears answerOf a (on st false r) ≡ stays 7 a (on st false r)
+  row-7 : heardOf (a .frame) (a .bits) ≡ heard.refused 7 → answersTo answerOf a (on st false r) ≡ stays 7 a (on st false r)
   unfolding frameOf handed last
-  row-7 k h = first-at 5 (rows handed) (last handed) (ready 0 (drop 5 (rows handed)) (ap malformed h))
+  row-7 h = first-at 5 (frameOf changeStores handed .rows) (last handed) (ready 0 (drop 5 (frameOf changeStores handed .rows)) (ap (refusedBy 7) h))
 
-  row-8 : (x : Message) → heardOf (a .frame) (a .bits) ≡ x → malformed x ≡ false → checksumWrong (a .frame) (a .bits) x ≡ true
-      → hears answerOf a (on st false r) ≡ stays 8 a (on st false r)
+  row-8 : heardOf (a .frame) (a .bits) ≡ heard.refused 8 → answersTo answerOf a (on st false r) ≡ stays 8 a (on st false r)
   unfolding frameOf handed last
-  row-8 x h m e = first-at 6 (rows handed) (last handed) (ready 1 (drop 5 (rows handed)) (ap malformed h ∙ m, ap (checksumWrong (a .frame) (a .bits)) h ∙ e))
+  row-8 h = first-at 6 (frameOf changeStores handed .rows) (last handed) (ready 1 (drop 5 (frameOf changeStores handed .rows)) (ap (refusedBy 7) h, ap (refusedBy 8) h))
 
-  module _ (x : Message) (h : heardOf (a .frame) (a .bits) ≡ x) (m : malformed x ≡ false) (k : checksumWrong (a .frame) (a .bits) x ≡ false) where
-    row-9 : wrong st x ≡ true → hears answerOf a (on st false r) ≡ stays 9 a (on st false r)
+  module _ (c : Command) (h : heardOf (a .frame) (a .bits) ≡ heard.said c) where
+    wrong-is : wrongCommand st (command handed) ≡ wrongCommand st c
+    unfolding handed
+    wrong-is = ap (λ (x : Message). wrongCommand st (commandIn x)) h
+
+    broken-is : broken handed ≡ breaks (layoutOf (a .image)) (a .image) (linkOf st) (linkOf st .half) (asksOf (c .order) .part)
+    unfolding handed
+    broken-is = ap (λ (x : Message). breaks (layoutOf (a .image)) (a .image) (linkOf st) (linkOf st .half) (asksOf (commandIn x .order) .part)) h
+
+    row-9 : wrongCommand st c ≡ true → answersTo answerOf a (on st false r) ≡ stays 9 a (on st false r)
     unfolding frameOf handed last
-    row-9 e = first-at 7 (rows handed) (last handed) (ready 2 (drop 5 (rows handed)) (ap malformed h ∙ m, (ap (checksumWrong (a .frame) (a .bits)) h ∙ k, ap (wrong st) h ∙ e)))
+    row-9 e =
+        first-at 7 (frameOf changeStores handed .rows) (last handed)
+        (ready 2 (drop 5 (frameOf changeStores handed .rows)) (ap (refusedBy 7) h, (ap (refusedBy 8) h, wrong-is ∙ e)))
 
-    row-12 : wrong st x ≡ false → broken handed x ≡ true → hears answerOf a (on st false r) ≡ drops a r
+    row-12 : wrongCommand st c ≡ false → breaks (layoutOf (a .image)) (a .image) (linkOf st) (linkOf st .half) (asksOf (c .order) .part) ≡ true
+        → answersTo answerOf a (on st false r) ≡ drops a r
     unfolding frameOf handed last
     row-12 w e =
-        first-at 8 (rows handed) (last handed)
-        (ready 3 (drop 5 (rows handed)) (ap malformed h ∙ m, (ap (checksumWrong (a .frame) (a .bits)) h ∙ k, (ap (wrong st) h ∙ w, ap (broken handed) h ∙ e))))
+        first-at 8 (frameOf changeStores handed .rows) (last handed)
+        (ready 3 (drop 5 (frameOf changeStores handed .rows)) (ap (refusedBy 7) h, (ap (refusedBy 8) h, (wrong-is ∙ w, broken-is ∙ e))))
 
     replied-as : Reply → Result
     replied-as z =
@@ -164,21 +182,22 @@ module _ (y : Layout) (a : Air) (st : State) (r : Register) (idle : Idle y (a .i
           room = packed (replyBits (a .image) z) (a .room);
         }
 
-    row-10 : (e : ℕ) → wrong st x ≡ false → broken handed x ≡ false → comes handed x .code ≡ code.Error e → 6 ≤ length (a .room)
-        → hears answerOf a (on st false r) ≡ replied-as (reply.Error e (linkOf st .handle))
+    row-10 : (e : Fault) → wrongCommand st c ≡ false → breaks (layoutOf (a .image)) (a .image) (linkOf st) (linkOf st .half) (asksOf (c .order) .part) ≡ false
+        → effectOf (scene handed) (c .order) .code ≡ code.Error e → 6 ≤ length (a .room)
+        → answersTo answerOf a (on st false r) ≡ replied-as (reply.Error (faultNumber e) (linkOf st .handle))
     unfolding frameOf handed last replied-as
-    row-10 e w b c l =
-        let code-is : effect handed .code ≡ code.Error e = ap (λ (z : Message). comes handed z .code) h ∙ c in
-        let reply-is : replyOf handed ≡ reply.Error e (linkOf st .handle) = ap (λ (q : Code). replyOr q (linkOf st .handle) (effect handed .reply)) code-is in
-        first-at 9 (rows handed) (last handed)
-        (ready 4 (drop 5 (rows handed)) (
-          ap malformed h ∙ m,
+    row-10 e w b d l =
+        let code-is : effect handed .code ≡ code.Error e = ap (λ (x : Message). effectOf (scene handed) (commandIn x .order) .code) h ∙ d in
+        let reply-is : replyOf handed ≡ reply.Error (faultNumber e) (linkOf st .handle) = ap (λ (q : Code). replyOr q (linkOf st .handle) (effect handed .reply)) code-is in
+        first-at 9 (frameOf changeStores handed .rows) (last handed)
+        (ready 4 (drop 5 (frameOf changeStores handed .rows)) (
+          ap (refusedBy 7) h,
           (
-            ap (checksumWrong (a .frame) (a .bits)) h ∙ k,
+            ap (refusedBy 8) h,
             (
-              ap (wrong st) h ∙ w,
+              wrong-is ∙ w,
               (
-                ap (broken handed) h ∙ b,
+                broken-is ∙ b,
                 ap₂ (λ (q : Code) (z : Reply). isError q && fits z (a .room)) code-is reply-is ∙ ap not (le-ltb (length (a .room)) 6 l),
               ),
             ),
@@ -188,12 +207,12 @@ module _ (y : Layout) (a : Air) (st : State) (r : Register) (idle : Idle y (a .i
 
 -- what it lacks, or that it has it all
 data Lacks (q : Bool) (c : Cover) (a : Asks) : Type 0 where
-  insecure : q ≡ false → a .secured ≡ true → Lacks q c a
+  insecure : q ≡ false → needsSecured (a .who) ≡ true → Lacks q c a
   naked : a .cover && not (isCovered c) ≡ true → Lacks q c a
   empty : a .bad ≡ true → Lacks q c a
 
 record Has (q : Bool) (c : Cover) (a : Asks) : Type 0 where
-  secured : not q && a .secured ≡ false
+  secured : not q && needsSecured (a .who) ≡ false
   covered : a .cover && not (isCovered c) ≡ false
   whole : a .bad ≡ false
 
@@ -216,12 +235,13 @@ none (suc k) f = absurd (f (omega arith))
 some : (k : ℕ) → 1 ≤ k → eqb k 0 ≡ false
 some k l = ne-eqb k 0 (omega arith)
 
-perma-lacks : (q : Bool) (c : Cover) (rfu k : ℕ) (p : Part) → ((q ≡ true) × (rfu ≡ 0) × (1 ≤ k) → ⊥) → Lacks q c (asks false true false (not (eqb rfu 0) || eqb k 0) p)
+perma-lacks : (q : Bool) (c : Cover) (rfu k : ℕ) (p : Part) → ((q ≡ true) × (rfu ≡ 0) × (1 ≤ k) → ⊥) → Lacks q c (asks who.Secured false (not (eqb rfu 0) || eqb k 0) p)
 perma-lacks false c rfu k p f = insecure refl refl
 perma-lacks true c zero k p f = empty (none k (λ l. f (refl, refl, l)))
 perma-lacks true c (suc rfu) k p f = empty (ap (λ (b : Bool). not b || eqb k 0) (ne-eqb (suc rfu) 0 (omega arith)))
 
 lacks : (o : Order) (q : Bool) (c : Cover) → (Needs q c o → ⊥) → Lacks q c (asksOf o)
+lacks order.Nak q c f = absurd (f tt)
 lacks order.ReqRn q c f = absurd (f tt)
 lacks (order.Read s) q c f = absurd (f tt)
 lacks (order.Write s w) q c f = naked (bare c f)
@@ -233,7 +253,7 @@ lacks (order.BlockErase s) q c f = empty (none (s .count) f)
 lacks (order.ReadPermalock rfu s) q c f = perma-lacks q c rfu (s .count) part.Other f
 lacks (order.Permalock rfu s at) q c f = perma-lacks q c rfu (s .count) part.Other f
 
-perma-has : (q : Bool) (c : Cover) (rfu k : ℕ) (p : Part) → (q ≡ true) × (rfu ≡ 0) × (1 ≤ k) → Has q c (asks false true false (not (eqb rfu 0) || eqb k 0) p)
+perma-has : (q : Bool) (c : Cover) (rfu k : ℕ) (p : Part) → (q ≡ true) × (rfu ≡ 0) × (1 ≤ k) → Has q c (asks who.Secured false (not (eqb rfu 0) || eqb k 0) p)
 perma-has q c rfu k p f =
     record {
       secured = ap (λ (b : Bool). not b && true) (f .0);
@@ -245,6 +265,7 @@ and-nothing : (q : Bool) → not q && false ≡ false
 and-nothing q = and-false (not q)
 
 has : (o : Order) (q : Bool) (c : Cover) → Needs q c o → Has q c (asksOf o)
+has order.Nak q c f = record { secured = and-nothing q; covered = refl; whole = refl }
 has order.ReqRn q c f = record { secured = and-nothing q; covered = refl; whole = refl }
 has (order.Read s) q c f = record { secured = and-nothing q; covered = refl; whole = refl }
 has (order.Write s w) q c f = record { secured = and-nothing q; covered = dressed c f; whole = refl }
@@ -260,34 +281,86 @@ has (order.Permalock rfu s at) q c f = perma-has q c rfu (s .count) part.Other f
 or-middle : (x y z : Bool) → y ≡ true → x || y || z ≡ true
 or-middle x y z e = ap (λ (b : Bool). b || z) (or-right x y e)
 
+-- every order but NAK is for a tag with its number
+numbered-order : (o : Order) → o ≢ order.Nak → asksOf o .who ≡ who.Everyone → ⊥
+numbered-order order.Nak d e = d refl
+numbered-order order.ReqRn d e = not-admitted e
+numbered-order (order.Read s) d e = not-linked e
+numbered-order (order.Write s w) d e = not-linked e
+numbered-order (order.Kill w) d e = not-linked e
+numbered-order (order.Lock mask action) d e = not-secured e
+numbered-order (order.Access w) d e = not-linked e
+numbered-order (order.BlockWrite s at) d e = not-linked e
+numbered-order (order.BlockErase s) d e = not-linked e
+numbered-order (order.ReadPermalock rfu s) d e = not-secured e
+numbered-order (order.Permalock rfu s at) d e = not-secured e
+
 module _ (h : ℕ) (c : Cover) (p : Half) where
-  lacks-wrong : (q : Bool) (n : ℕ) (a : Asks) → Lacks q c a → wrongBy (linked q (link h c p)) n a ≡ true
-  lacks-wrong true n a (insecure e s) = absurd (true≢false e)
-  lacks-wrong true n a (naked e) = or-middle (not (eqb h n)) (a .cover && not (isCovered c)) (a .bad) e
-  lacks-wrong true n a (empty e) = or-right (not (eqb h n) || (a .cover && not (isCovered c))) (a .bad) e
-  lacks-wrong false n a (insecure e s) = ap (λ (b : Bool). not (not b && eqb h n) || (a .cover && not (isCovered c)) || a .bad) s
-  lacks-wrong false n a (naked e) = or-middle (not (not (a .secured) && eqb h n)) (a .cover && not (isCovered c)) (a .bad) e
-  lacks-wrong false n a (empty e) = or-right (not (not (a .secured) && eqb h n) || (a .cover && not (isCovered c))) (a .bad) e
+  hears-so : (w : Who) (q : Bool) (n : ℕ) → (w ≡ who.Everyone → ⊥) → wide.hears w (linked q (link h c p)) n ≡ not (not q && needsSecured w) && eqb h n
+  hears-so who.Everyone q n d = absurd (d refl)
+  hears-so who.Admitted true n d = refl
+  hears-so who.Admitted false n d = refl
+  hears-so who.Linked true n d = refl
+  hears-so who.Linked false n d = refl
+  hears-so who.Secured true n d = refl
+  hears-so who.Secured false n d = refl
 
-  other-wrong : (q : Bool) (n : ℕ) (a : Asks) → n ≢ h → wrongBy (linked q (link h c p)) n a ≡ true
-  other-wrong true n a d = ap (λ (b : Bool). not b || (a .cover && not (isCovered c)) || a .bad) (ne-eqb h n (λ e. d (sym e)))
-  other-wrong false n a d =
-      ap (λ (b : Bool). not (not (a .secured) && b) || (a .cover && not (isCovered c)) || a .bad) (ne-eqb h n (λ e. d (sym e)))
-      ∙ ap (λ (b : Bool). not b || (a .cover && not (isCovered c)) || a .bad) (and-false (not (a .secured)))
+  -- by what is heard
+  wrong-by : (q : Bool) (n : ℕ) (a : Asks) (t : Bool) → wide.hears (a .who) (linked q (link h c p)) n ≡ t
+      → wrongBy (linked q (link h c p)) n a ≡ not t || (a .cover && not (isCovered c)) || a .bad
+  wrong-by true n a t e = ap (λ (b : Bool). not b || (a .cover && not (isCovered c)) || a .bad) e
+  wrong-by false n a t e = ap (λ (b : Bool). not b || (a .cover && not (isCovered c)) || a .bad) e
 
-  has-right : (q : Bool) (a : Asks) → Has q c a → wrongBy (linked q (link h c p)) h a ≡ false
-  has-right true a f = ap₂ (λ (x z : Bool). not x || z || a .bad) (eq-eqb h h refl) (f .covered) ∙ f .whole
-  has-right false a f =
-      ap₂ (λ (x z : Bool). not (not x && z) || (a .cover && not (isCovered c)) || a .bad) (f .secured) (eq-eqb h h refl)
-      ∙ ap (λ (x : Bool). x || a .bad) (f .covered)
-      ∙ f .whole
+  lacks-wrong : (q : Bool) (n : ℕ) (a : Asks) → (a .who ≡ who.Everyone → ⊥) → Lacks q c a → wrongBy (linked q (link h c p)) n a ≡ true
+  lacks-wrong q n a d (insecure e s) =
+      wrong-by q n a false (hears-so (a .who) q n d ∙ ap₂ (λ (x z : Bool). not (not x && z) && eqb h n) e s)
+  lacks-wrong q n a d (naked e) =
+      wrong-by q n a (wide.hears (a .who) (linked q (link h c p)) n) refl ∙ or-middle (not (wide.hears (a .who) (linked q (link h c p)) n)) (a .cover && not (isCovered c)) (a .bad) e
+  lacks-wrong q n a d (empty e) =
+      wrong-by q n a (wide.hears (a .who) (linked q (link h c p)) n) refl ∙ or-right (not (wide.hears (a .who) (linked q (link h c p)) n) || (a .cover && not (isCovered c))) (a .bad) e
+
+  other-wrong : (q : Bool) (n : ℕ) (a : Asks) → (a .who ≡ who.Everyone → ⊥) → n ≢ h → wrongBy (linked q (link h c p)) n a ≡ true
+  other-wrong q n a d f =
+      wrong-by q n a false
+      (hears-so (a .who) q n d ∙ ap (λ (b : Bool). not (not q && needsSecured (a .who)) && b) (ne-eqb h n (λ e. f (sym e))) ∙ and-false (not (not q && needsSecured (a .who))))
+
+  has-right : (q : Bool) (a : Asks) → (a .who ≡ who.Everyone → ⊥) → Has q c a → wrongBy (linked q (link h c p)) h a ≡ false
+  has-right q a d f =
+      wrong-by q h a true (hears-so (a .who) q h d ∙ ap₂ (λ (x z : Bool). not x && z) (f .secured) (eq-eqb h h refl))
+      ∙ ap₂ (λ (x z : Bool). x || z) (f .covered) (f .whole)
+
+-- in Arbitrate, Acknowledged and Killed
+arbitrate-hears : (w : Who) (n : ℕ) → (w ≡ who.Everyone → ⊥) → wide.hears w state.Arbitrate n ≡ false
+arbitrate-hears who.Everyone n d = absurd (d refl)
+arbitrate-hears who.Admitted n d = refl
+arbitrate-hears who.Linked n d = refl
+arbitrate-hears who.Secured n d = refl
+
+killed-hears : (w : Who) (n : ℕ) → wide.hears w state.Killed n ≡ false
+killed-hears who.Everyone n = refl
+killed-hears who.Admitted n = refl
+killed-hears who.Linked n = refl
+killed-hears who.Secured n = refl
+
+abbrev takesAdmission : Who → Bool
+takesAdmission who.Everyone = false
+takesAdmission who.Admitted = true
+takesAdmission who.Linked = false
+takesAdmission who.Secured = false
+
+admission-hears : (w : Who) (m n : ℕ) → (w ≡ who.Everyone → ⊥) → wide.hears w (state.Acknowledged m) n ≡ takesAdmission w && eqb m n
+admission-hears who.Everyone m n d = absurd (d refl)
+admission-hears who.Admitted m n d = refl
+admission-hears who.Linked m n d = refl
+admission-hears who.Secured m n d = refl
 
 -- the frame's refusals, line by line; the layout is the image's
 module _ (a : Air) (r : Register) (idle : Idle (layoutOf (a .image)) (a .image)) where
-  says-9 : (st : State) (n : ℕ) (o : Order) → Says a n o → wrongBy st n (asksOf o) ≡ true → hears answerOf a (on st false r) ≡ stays 9 a (on st false r)
-  says-9 st n o s e = row-9 (layoutOf (a .image)) a st r idle (heard.said (record { number = n; order = o })) (s .heard) refl (ap not (s .right)) e
+  says-9 : (st : State) (n : ℕ) (o : Order) → Says a n o → wrongBy st n (asksOf o) ≡ true → answersTo answerOf a (on st false r) ≡ stays 9 a (on st false r)
+  says-9 st n o s e = row-9 (layoutOf (a .image)) a st r idle (record { number = n; order = o }) s e
 
-  early : (o : Order) → o ≢ order.ReqRn → asksOf o .early ≡ false
+  early : (o : Order) → o ≢ order.ReqRn → takesAdmission (asksOf o .who) ≡ false
+  early order.Nak d = refl
   early order.ReqRn d = absurd (d refl)
   early (order.Read s) d = refl
   early (order.Write s w) d = refl
@@ -299,36 +372,38 @@ module _ (a : Air) (r : Register) (idle : Idle (layoutOf (a .image)) (a .image))
   early (order.ReadPermalock rfu s) d = refl
   early (order.Permalock rfu s at) d = refl
 
-  not-admitted : (m n : ℕ) (o : Order) → (n ≢ m) ⊎ (o ≢ order.ReqRn) → wrongBy (state.Acknowledged m) n (asksOf o) ≡ true
-  not-admitted m n o (inl d) =
-      ap (λ (b : Bool). not (asksOf o .early && b) || (asksOf o .cover && true) || asksOf o .bad) (ne-eqb m n (λ e. d (sym e)))
-      ∙ ap (λ (b : Bool). not b || (asksOf o .cover && true) || asksOf o .bad) (and-false (asksOf o .early))
-  not-admitted m n o (inr d) = ap (λ (b : Bool). not (b && eqb m n) || (asksOf o .cover && true) || asksOf o .bad) (early o d)
+  unheard : (st : State) (n : ℕ) (o : Order) → wide.hears (asksOf o .who) st n ≡ false → wrongBy st n (asksOf o) ≡ true
+  unheard st n o e = ap (λ (b : Bool). not b || (asksOf o .cover && not (isCovered (linkOf st .cover))) || asksOf o .bad) e
+
+  not-heard : (m n : ℕ) (o : Order) → (n ≢ m) ⊎ (o ≢ order.ReqRn) → takesAdmission (asksOf o .who) && eqb m n ≡ false
+  not-heard m n o (inl d) = ap (λ (b : Bool). takesAdmission (asksOf o .who) && b) (ne-eqb m n (λ e. d (sym e))) ∙ and-false (takesAdmission (asksOf o .who))
+  not-heard m n o (inr d) = ap (λ (b : Bool). b && eqb m n) (early o d)
 
   wrongs : OutOfPlace answerOf a r
   wrongs =
       record {
-        arbitrate = λ n o s. says-9 state.Arbitrate n o s refl;
-        killed = λ n o s. says-9 state.Killed n o s refl;
-        killed-nak = λ h. row-9 (layoutOf (a .image)) a state.Killed r idle heard.nak h refl refl refl;
-        admission = λ m n o s d. says-9 (state.Acknowledged m) n o s (not-admitted m n o d);
-        handle = λ q h c p n o s d. says-9 (linked q (link h c p)) n o s (unfit q h c p n o d);
+        arbitrate = λ n o s k. says-9 state.Arbitrate n o s (unheard state.Arbitrate n o (arbitrate-hears (asksOf o .who) n (numbered-order o k)));
+        killed = λ n o s. says-9 state.Killed n o s (unheard state.Killed n o (killed-hears (asksOf o .who) n));
+        admission = λ m n o s k d.
+            says-9 (state.Acknowledged m) n o s
+            (unheard (state.Acknowledged m) n o (admission-hears (asksOf o .who) m n (numbered-order o k) ∙ not-heard m n o d));
+        handle = λ q h c p n o s k d. says-9 (linked q (link h c p)) n o s (unfit q h c p n o (numbered-order o k) d);
       }
     where
-      unfit : (q : Bool) (h : ℕ) (c : Cover) (p : Half) (n : ℕ) (o : Order) → (n ≢ h) ⊎ (Needs q c o → ⊥) → wrongBy (linked q (link h c p)) n (asksOf o) ≡ true
-      unfit q h c p n o (inl d) = other-wrong h c p q n (asksOf o) d
-      unfit q h c p n o (inr f) = lacks-wrong h c p q n (asksOf o) (lacks o q c f)
+      unfit : (q : Bool) (h : ℕ) (c : Cover) (p : Half) (n : ℕ) (o : Order) → (asksOf o .who ≡ who.Everyone → ⊥) → (n ≢ h) ⊎ (Needs q c o → ⊥)
+          → wrongBy (linked q (link h c p)) n (asksOf o) ≡ true
+      unfit q h c p n o k (inl d) = other-wrong h c p q n (asksOf o) k d
+      unfit q h c p n o k (inr f) = lacks-wrong h c p q n (asksOf o) k (lacks o q c f)
 
   -- 12
-  says-12 : (q : Bool) (h : ℕ) (c : Cover) (p : Half) (o : Order) → Says a h o → Needs q c o
+  says-12 : (q : Bool) (h : ℕ) (c : Cover) (p : Half) (o : Order) → Says a h o → Needs q c o → o ≢ order.Nak
       → breaks (layoutOf (a .image)) (a .image) (link h c p) p (asksOf o .part) ≡ true
-      → hears answerOf a (on (linked q (link h c p)) false r) ≡ drops a r
-  unfolding handed
-  says-12 q h c p o s f e =
-      row-12 (layoutOf (a .image)) a (linked q (link h c p)) r idle (heard.said (record { number = h; order = o })) (s .heard) refl (ap not (s .right))
-      (has-right h c p q (asksOf o) (has o q c f)) (go q)
+      → answersTo answerOf a (on (linked q (link h c p)) false r) ≡ drops a r
+  says-12 q h c p o s f k e =
+      row-12 (layoutOf (a .image)) a (linked q (link h c p)) r idle (record { number = h; order = o }) s
+      (has-right h c p q (asksOf o) (numbered-order o k) (has o q c f)) (go q)
     where
-      go : (q : Bool) → broken (handed (layoutOf (a .image)) a (linked q (link h c p)) r idle) (heard.said (record { number = h; order = o })) ≡ true
+      go : (q : Bool) → breaks (layoutOf (a .image)) (a .image) (linkOf (linked q (link h c p))) (linkOf (linked q (link h c p)) .half) (asksOf o .part) ≡ true
       go true = e
       go false = e
 
@@ -342,12 +417,13 @@ module _ (a : Air) (r : Register) (idle : Idle (layoutOf (a .image)) (a .image))
   comes-between (half.Access up) o h c f = go o f
     where
       go : (o : Order) → Other (half.Access up) o → breaks (layoutOf (a .image)) (a .image) (link h c (half.Access up)) (half.Access up) (asksOf o .part) ≡ true
-      go order.ReqRn f = absurd (f .0 refl)
+      go order.Nak f = absurd (f .0 refl)
+      go order.ReqRn f = absurd (f .1 refl)
       go (order.Read s) f = refl
       go (order.Write s w) f = refl
       go (order.Kill w) f = refl
       go (order.Lock mask action) f = refl
-      go (order.Access w) f = absurd (f .1 w refl)
+      go (order.Access w) f = absurd (f .2 w refl)
       go (order.BlockWrite s at) f = refl
       go (order.BlockErase s) f = refl
       go (order.ReadPermalock rfu s) f = refl
@@ -355,10 +431,11 @@ module _ (a : Air) (r : Register) (idle : Idle (layoutOf (a .image)) (a .image))
   comes-between (half.Kill up) o h c f = go o f
     where
       go : (o : Order) → Other (half.Kill up) o → breaks (layoutOf (a .image)) (a .image) (link h c (half.Kill up)) (half.Kill up) (asksOf o .part) ≡ true
-      go order.ReqRn f = absurd (f .0 refl)
+      go order.Nak f = absurd (f .0 refl)
+      go order.ReqRn f = absurd (f .1 refl)
       go (order.Read s) f = refl
       go (order.Write s w) f = refl
-      go (order.Kill w) f = absurd (f .1 w refl)
+      go (order.Kill w) f = absurd (f .2 w refl)
       go (order.Lock mask action) f = refl
       go (order.Access w) f = refl
       go (order.BlockWrite s at) f = refl
@@ -366,20 +443,32 @@ module _ (a : Air) (r : Register) (idle : Idle (layoutOf (a .image)) (a .image))
       go (order.ReadPermalock rfu s) f = refl
       go (order.Permalock rfu s at) f = refl
 
+  access-no : {w : ℕ} → order.Access w ≡ order.Nak → ⊥
+  access-no e = let z : _≡_ {A = ℕ} 0 1 = cc in omega arith
+
+  kill-no : {w : ℕ} → order.Kill w ≡ order.Nak → ⊥
+  kill-no e = let z : _≡_ {A = ℕ} 0 1 = cc in omega arith
+
+  other-no : (p : Half) (o : Order) → Other p o → o ≢ order.Nak
+  other-no half.Nothing o f = absurd f
+  other-no (half.Access up) o f = f .0
+  other-no (half.Kill up) o f = f .0
+
   drop-lines : Dropped answerOf (layoutOf (a .image)) a r
   drop-lines =
       record {
-        access = λ q h c up w s d. says-12 q h (cover.Number c) (half.Access up) (order.Access w) s tt (not-both up (bitXor w c) _ _ d);
-        kill = λ q h c up w s d. says-12 q h (cover.Number c) (half.Kill up) (order.Kill w) s tt (not-both up (bitXor w c) _ _ d);
-        between = λ q h c p o s f d. says-12 q h c p o s f (comes-between p o h c d);
+        access = λ q h c up w s d. says-12 q h (cover.Number c) (half.Access up) (order.Access w) s tt (λ e. access-no e) (not-both up (bitXor w c) _ _ d);
+        kill = λ q h c up w s d. says-12 q h (cover.Number c) (half.Kill up) (order.Kill w) s tt (λ e. kill-no e) (not-both up (bitXor w c) _ _ d);
+        between = λ q h c p o s f d. says-12 q h c p o s f (other-no p o d) (comes-between p o h c d);
       }
 
   -- the code of an order where no half waits
   codeBy : Bool → Cover → Order → Code
+  codeBy q c order.Nak = code.Nothing
   codeBy q c order.ReqRn = code.Nothing
   codeBy q c (order.Read s) = readCode (layoutOf (a .image)) (a .image) q s
   codeBy q c (order.Write s w) = writeCode (layoutOf (a .image)) (a .image) q s (uncovered c w)
-  codeBy q c (order.Kill w) = cond (zeroKill (layoutOf (a .image)) (a .image)) (code.Error 0x00) code.Nothing
+  codeBy q c (order.Kill w) = cond (zeroKill (layoutOf (a .image)) (a .image)) (code.Error fault.Other) code.Nothing
   codeBy q c (order.Lock mask action) = lockCode (layoutOf (a .image)) (a .image) mask action
   codeBy q c (order.Access w) = code.Nothing
   codeBy q c (order.BlockWrite s at) = writeCode (layoutOf (a .image)) (a .image) q s (fieldAt (a .frame) (at + 16 * (1 - s .pointer)) 16)
@@ -393,6 +482,7 @@ module _ (a : Air) (r : Register) (idle : Idle (layoutOf (a .image)) (a .image))
   same-code : (o : Order) (k : Link) → k .half ≡ half.Nothing
       → (effectOf (scene-in (state.Secured k)) o .code ≡ codeBy true (k .cover) o) × (effectOf (scene-in (state.Open k)) o .code ≡ codeBy false (k .cover) o)
   unfolding scene-in codeBy
+  same-code order.Nak k e = (refl, refl)
   same-code order.ReqRn k e = (refl, refl)
   same-code (order.Read s) k e = (refl, refl)
   same-code (order.Write s w) k e = (refl, refl)
@@ -405,24 +495,29 @@ module _ (a : Air) (r : Register) (idle : Idle (layoutOf (a .image)) (a .image))
   same-code (order.Permalock rfu s at) k e = (refl, refl)
 
   -- 10, where no half waits
-  says-10 : (q : Bool) (h : ℕ) (c : Cover) (o : Order) (e : ℕ) → Says a h o → Needs q c o → 6 ≤ length (a .room) → codeBy q c o ≡ code.Error e
-      → hears answerOf a (on (linked q (link h c half.Nothing)) false r) ≡ errs a r q h half.Nothing e
+  coded-no : (q : Bool) (c : Cover) (o : Order) (e : Fault) → codeBy q c o ≡ code.Error e → o ≢ order.Nak
+  unfolding codeBy
+  coded-no q c o e d k = never (sym (ap (codeBy q c) k) ∙ d)
+    where
+      never : code.Nothing ≡ code.Error e → ⊥
+      never d = let z : _≡_ {A = ℕ} 0 1 = cc in omega arith
+
+  says-10 : (q : Bool) (h : ℕ) (c : Cover) (o : Order) (e : Fault) → Says a h o → Needs q c o → 6 ≤ length (a .room) → codeBy q c o ≡ code.Error e
+      → answersTo answerOf a (on (linked q (link h c half.Nothing)) false r) ≡ errs a r q h (faultNumber e)
   unfolding handed replied-as scene-in
   says-10 q h c o e s f l d = go q f d
     where
-      x : Message
-      x = heard.said (record { number = h; order = o })
-
-      go : (q : Bool) → Needs q c o → codeBy q c o ≡ code.Error e → hears answerOf a (on (linked q (link h c half.Nothing)) false r) ≡ errs a r q h half.Nothing e
+      go : (q : Bool) → Needs q c o → codeBy q c o ≡ code.Error e → answersTo answerOf a (on (linked q (link h c half.Nothing)) false r) ≡ errs a r q h (faultNumber e)
       go true f d =
-          row-10 (layoutOf (a .image)) a (state.Secured (link h c half.Nothing)) r idle x (s .heard) refl (ap not (s .right)) e
-          (has-right h c half.Nothing true (asksOf o) (has o true c f)) refl (same-code o (link h c half.Nothing) refl .0 ∙ d) l
+          row-10 (layoutOf (a .image)) a (state.Secured (link h c half.Nothing)) r idle (record { number = h; order = o }) s e
+          (has-right h c half.Nothing true (asksOf o) (numbered-order o (coded-no true c o e d)) (has o true c f)) refl (same-code o (link h c half.Nothing) refl .0 ∙ d) l
       go false f d =
-          row-10 (layoutOf (a .image)) a (state.Open (link h c half.Nothing)) r idle x (s .heard) refl (ap not (s .right)) e
-          (has-right h c half.Nothing false (asksOf o) (has o false c f)) refl (same-code o (link h c half.Nothing) refl .1 ∙ d) l
+          row-10 (layoutOf (a .image)) a (state.Open (link h c half.Nothing)) r idle (record { number = h; order = o }) s e
+          (has-right h c half.Nothing false (asksOf o) (numbered-order o (coded-no false c o e d)) (has o false c f)) refl (same-code o (link h c half.Nothing) refl .1 ∙ d) l
 
   -- what a writing command brings is what its code is asked of
   brings-needs : (o : Order) (q : Bool) (c : Cover) (b p n pc : ℕ) → Brings a c o b p n pc → Needs q c o
+  brings-needs order.Nak q c b p n pc f = tt
   brings-needs order.ReqRn q c b p n pc f = tt
   brings-needs (order.Read s) q c b p n pc f = tt
   brings-needs (order.Write s w) q cover.Nothing b p n pc f = absurd f
@@ -437,24 +532,26 @@ module _ (a : Air) (r : Register) (idle : Idle (layoutOf (a .image)) (a .image))
 
   -- a bank's number has two bits
   bank-small : (o : Order) (c : Cover) (b p n pc h : ℕ) → Says a h o → Brings a c o b p n pc → b < 4
+  bank-small order.Nak c b p n pc h s f = absurd f
   bank-small order.ReqRn c b p n pc h s f = absurd f
   bank-small (order.Read x) c b p n pc h s f = absurd f
   bank-small (order.Write x w) cover.Nothing b p n pc h s f = absurd f
   bank-small (order.Write x w) (cover.Number k) b p n pc h s f =
-      subst (λ (z : Span). z .bank < 4) (f .0) (said-small (a .frame) (a .bits) (record { number = h; order = order.Write x w }) (s .heard) .0)
+      subst (λ (z : Span). z .bank < 4) (f .0) (said-small (a .frame) (a .bits) (record { number = h; order = order.Write x w }) s .0)
   bank-small (order.Kill w) c b p n pc h s f = absurd f
   bank-small (order.Lock mask action) c b p n pc h s f = absurd f
   bank-small (order.Access w) c b p n pc h s f = absurd f
   bank-small (order.BlockWrite x at) c b p n pc h s f =
-      subst (λ (z : Span). z .bank < 4) (f .0) (said-small (a .frame) (a .bits) (record { number = h; order = order.BlockWrite x at }) (s .heard))
+      subst (λ (z : Span). z .bank < 4) (f .0) (said-small (a .frame) (a .bits) (record { number = h; order = order.BlockWrite x at }) s)
   bank-small (order.BlockErase x) c b p n pc h s f =
-      subst (λ (z : Span). z .bank < 4) (f .0) (said-small (a .frame) (a .bits) (record { number = h; order = order.BlockErase x }) (s .heard))
+      subst (λ (z : Span). z .bank < 4) (f .0) (said-small (a .frame) (a .bits) (record { number = h; order = order.BlockErase x }) s)
   bank-small (order.ReadPermalock rfu x) c b p n pc h s f = absurd f
   bank-small (order.Permalock rfu x at) c b p n pc h s f = absurd f
 
   brings-code : (o : Order) (q : Bool) (c : Cover) (b p n pc : ℕ) → Brings a c o b p n pc
       → codeBy q c o ≡ writeCode (layoutOf (a .image)) (a .image) q (span b p n) pc
   unfolding codeBy
+  brings-code order.Nak q c b p n pc f = absurd f
   brings-code order.ReqRn q c b p n pc f = absurd f
   brings-code (order.Read s) q c b p n pc f = absurd f
   brings-code (order.Write s w) q cover.Nothing b p n pc f = absurd f
@@ -472,35 +569,35 @@ module _ (a : Air) (r : Register) (idle : Idle (layoutOf (a .image)) (a .image))
     unfolding codeBy
     error-lines q h c =
         record {
-          read-past = λ b p n s f. says-10 q h c (order.Read (span b p n)) 0x03 s tt l (codes.read-past (layoutOf (a .image)) (a .image) q b p n f);
-          read-right = λ b p n j s w d e. says-10 q h c (order.Read (span b p n)) 0x04 s tt l (codes.read-right (layoutOf (a .image)) (a .image) q b p n j w d e);
+          read-past = λ b p n s f. says-10 q h c (order.Read (span b p n)) fault.PastEnd s tt l (codes.read-past (layoutOf (a .image)) (a .image) q b p n f);
+          read-right = λ b p n j s w d e. says-10 q h c (order.Read (span b p n)) fault.NoRight s tt l (codes.read-right (layoutOf (a .image)) (a .image) q b p n j w d e);
           write-past = λ o b p n pc s f d.
-              says-10 q h c o 0x03 s (brings-needs o q c b p n pc f) l (brings-code o q c b p n pc f ∙ codes.write-past (layoutOf (a .image)) (a .image) q b p n pc d);
+              says-10 q h c o fault.PastEnd s (brings-needs o q c b p n pc f) l (brings-code o q c b p n pc f ∙ codes.write-past (layoutOf (a .image)) (a .image) q b p n pc d);
           write-right = λ o b p n pc j s f w i e.
-              says-10 q h c o 0x04 s (brings-needs o q c b p n pc f) l (brings-code o q c b p n pc f ∙ codes.write-right (layoutOf (a .image)) (a .image) q b p n pc j w i (bank-small o c b p n pc h s f) e);
+              says-10 q h c o fault.NoRight s (brings-needs o q c b p n pc f) l (brings-code o q c b p n pc f ∙ codes.write-right (layoutOf (a .image)) (a .image) q b p n pc j w i (bank-small o c b p n pc h s f) e);
           write-pc = λ o b p n pc s f w g t e.
-              says-10 q h c o 0x03 s (brings-needs o q c b p n pc f) l (brings-code o q c b p n pc f ∙ codes.write-pc (layoutOf (a .image)) (a .image) q b p n pc w g t e);
+              says-10 q h c o fault.PastEnd s (brings-needs o q c b p n pc f) l (brings-code o q c b p n pc f ∙ codes.write-pc (layoutOf (a .image)) (a .image) q b p n pc w g t e);
           write-many = λ o b p n pc s f w g t e.
-              says-10 q h c o 0x00 s (brings-needs o q c b p n pc f) l (brings-code o q c b p n pc f ∙ codes.write-many (layoutOf (a .image)) (a .image) q b p n pc w g t e);
+              says-10 q h c o fault.Other s (brings-needs o q c b p n pc f) l (brings-code o q c b p n pc f ∙ codes.write-many (layoutOf (a .image)) (a .image) q b p n pc w g t e);
           kill-zero = λ k w e s u v.
-              says-10 q h c (order.Kill w) 0x00 s (subst Covered (sym e) tt) l
-              (ap₂ (λ (t x : Bool). cond (t && x) (code.Error 0x00) code.Nothing) (eq-eqb (killWord (layoutOf (a .image)) (a .image) 0) 0 u) (eq-eqb (killWord (layoutOf (a .image)) (a .image) 1) 0 v));
+              says-10 q h c (order.Kill w) fault.Other s (subst Covered (sym e) tt) l
+              (ap₂ (λ (t x : Bool). cond (t && x) (code.Error fault.Other) code.Nothing) (eq-eqb (killWord (layoutOf (a .image)) (a .image) 0) 0 u) (eq-eqb (killWord (layoutOf (a .image)) (a .image) 1) 0 v));
         }
 
     lock-lines : (h : ℕ) (c : Cover) → Locks answerOf (layoutOf (a .image)) a r h c
     unfolding codeBy
     lock-lines h c =
         record {
-          lock-pair = λ mask action k s i e d. says-10 true h c (order.Lock mask action) 0x04 s refl l (codes.lock-pair (layoutOf (a .image)) (a .image) mask action k i e d);
+          lock-pair = λ mask action k s i e d. says-10 true h c (order.Lock mask action) fault.NoRight s refl l (codes.lock-pair (layoutOf (a .image)) (a .image) mask action k i e d);
           lock-user = λ mask action b s f e d i g.
-              says-10 true h c (order.Lock mask action) 0x04 s refl l (codes.lock-user (layoutOf (a .image)) (a .image) mask action b f e d i g);
-          perma-read = λ b p n s i d. says-10 true h c (order.ReadPermalock 0 (span b p n)) 0x03 s (refl, refl, i) l (codes.perma-read (layoutOf (a .image)) b p n d);
+              says-10 true h c (order.Lock mask action) fault.NoRight s refl l (codes.lock-user (layoutOf (a .image)) (a .image) mask action b f e d i g);
+          perma-read = λ b p n s i d. says-10 true h c (order.ReadPermalock 0 (span b p n)) fault.PastEnd s (refl, refl, i) l (codes.perma-read (layoutOf (a .image)) b p n d);
           perma-past = λ b p n at s i d.
-              says-10 true h c (order.Permalock 0 (span b p n) at) 0x03 s (refl, refl, i) l (codes.perma-past (layoutOf (a .image)) (a .image) (a .frame) p n at b d);
+              says-10 true h c (order.Permalock 0 (span b p n) at) fault.PastEnd s (refl, refl, i) l (codes.perma-past (layoutOf (a .image)) (a .image) (a .frame) p n at b d);
           perma-mask = λ p n at k s i w j d e.
-              says-10 true h c (order.Permalock 0 (span 3 p n) at) 0x03 s (refl, refl, i) l (codes.perma-mask (layoutOf (a .image)) (a .image) (a .frame) p n at k w j d e);
+              says-10 true h c (order.Permalock 0 (span 3 p n) at) fault.PastEnd s (refl, refl, i) l (codes.perma-mask (layoutOf (a .image)) (a .image) (a .frame) p n at k w j d e);
           perma-user = λ p n at s i w g e d.
-              says-10 true h c (order.Permalock 0 (span 3 p n) at) 0x04 s (refl, refl, i) l (codes.perma-user (layoutOf (a .image)) (a .image) (a .frame) p n at w g e d);
+              says-10 true h c (order.Permalock 0 (span 3 p n) at) fault.NoRight s (refl, refl, i) l (codes.perma-user (layoutOf (a .image)) (a .image) (a .frame) p n at w g e d);
         }
 
 -- calls without an image
@@ -594,9 +691,7 @@ read-listed m at n room =
     record {
       more = λ s. (leaves 4 s m room, ltb (length room) (2 * n)) ∷ [];
       last = λ s.
-          let l = liveOf (s .power) in
-          let killed = isKilled (l .state) in
-          gives 0 (registerTo l (cond killed (withKilled (l .register)) (l .register))) (16 * n) 0 m (packed (readBits (layoutOf m) m killed at n) room);
+          readOf s m at n room .done;
       same = λ s. refl;
     }
 
@@ -608,12 +703,7 @@ write-listed m at d u =
           let stores = changeStores (layoutOf m .work .at) (portWords (layoutOf m) m (isKilled (liveOf (s .power) .state)) at d) in
           (lost m stores u [], ltb u (length stores)) ∷ [];
       last = λ s.
-          let l = liveOf (s .power) in
-          let killed = isKilled (l .state) in
-          let stores = changeStores (layoutOf m .work .at) (portWords (layoutOf m) m killed at d) in
-          gives 0
-          (registerTo l (cond killed (withKilled (l .register)) (withUnwritten (someUnwritten (layoutOf m) m at (length d / 2)) (l .register))))
-          0 (length stores) (after m stores) [];
+          writeOf changeStores s m at d u .done;
       same = λ s. refl;
     }
 
@@ -661,7 +751,7 @@ own-idle y m idle = subst (λ (z : Layout). Idle z m) (own-layout y m idle) idle
 
 start-refused : (m : List ℕ) (s : Session) (n u : ℕ) → checkOf m ≡ refused n → asked answerOf s m (powerUp u) ≡ leaves n offSession m []
 unfolding powerUpOf
-start-refused m s n u e = image-first m (λ k. leaves k offSession m []) (drop 3 (powerRows m u)) (powered m) n e
+start-refused m s n u e = image-first m (λ k. leaves k offSession m []) (drop 3 (powerUpOf m u .rows)) (powerUpOf m u .done) n e
 
 pub when-refused : Refusals answerOf
 when-refused =
@@ -670,7 +760,7 @@ when-refused =
       unheard = λ y a st r idle.
           record {
             malformed = row-7 y a st r idle;
-            checksum = λ c h e. row-8 y a st r idle (heard.said c) h refl (ap not e);
+            checksum = row-8 y a st r idle;
           };
       wrong = λ y a r idle. wrongs a r (own-idle y (a .image) idle);
       dropped = λ y a r idle. subst (λ (z : Layout). Dropped answerOf z a r) (sym (own-layout y (a .image) idle)) (drop-lines a r (own-idle y (a .image) idle));
@@ -679,7 +769,7 @@ when-refused =
       locks = λ y a r h c idle l.
           subst (λ (z : Layout). Locks answerOf z a r h c) (sym (own-layout y (a .image) idle)) (lock-lines a r (own-idle y (a .image) idle) l h c);
       power-up = λ m s n u e. start-refused m s n u e;
-      alone = alone-lines;
+      no-image = alone-lines;
       reads = λ m at n room. transfer-lines m room (read at n room) (badCount (layoutOf m) at n) (read-listed m at n room);
       writes = λ m at d u. transfer-lines m [] (write at d u) (badData (layoutOf m) at d) (write-listed m at d u);
       port = λ y m st r idle. subst (λ (z : Layout). PortRefused answerOf z m st r) (sym (own-layout y m idle)) (port-lines m st r (own-idle y m idle));

@@ -18,7 +18,7 @@ use Rattle.image.specs.Content.{lockWord, permalock}
 use Rattle.rights.specs.Rights.{pwdBit, permaBit, opens, pairOf, mayRead, blockOpen, mayWrite, lockedTo}
 use Rattle.states.specs.Commands.{accessWord, zeroAccess}
 use Rattle.tag.specs.Port.{portOpen, portWrites, writtenWords}
-use Rattle.demands.specs.Facts.{Opens, MayRead, MayWrite, bitIn, Masked, PortWrites, Tells, marked}
+use Rattle.demands.specs.Facts.{Opens, MayRead, MayWrite, bitIn, LockedBy, PortWrites, Tells, marked}
 
 opens-if : (q : Bool) (lock k : ℕ) → Opens q lock k → opens q lock k ≡ true
 opens-if q lock k (inl e) = ap (λ (t : Bool). t || (q && eqb (permaBit lock k) 0)) (eq-eqb (pwdBit lock k) 0 e)
@@ -156,7 +156,7 @@ module _ (old mask action : ℕ) where
   small : (w t : ℕ) → bitIn w t < 2
   small w t = mod-lt (w / 2 ^ t) (omega arith)
 
-  pub lock-masked : Masked old mask action (lockedTo old mask action)
+  pub lock-masked : LockedBy old mask action (lockedTo old mask action)
   unfolding lockedTo
   lock-masked =
       record {

@@ -12,14 +12,12 @@ use Rattle.image.specs.declared.Layout.{Layout}
 use Rattle.image.specs.Layout.{layoutOf}
 use Rattle.frames.specs.declared.Order.{Order}
 use Rattle.frames.specs.declared.Order.the-variants as order
-use Rattle.frames.specs.Message.{Message}
-use Rattle.frames.specs.Message as heard
-use Rattle.frames.specs.Frames.{heardOf}
 use Rattle.states.specs.declared.Half.{Half}
 use Rattle.states.specs.declared.Half.the-variants as half
 use Rattle.states.specs.Commands.{linkOf, isKilled}
 use Rattle.plans.specs.Effects.{Scene, halfKill, halfAccess, effectOf}
-use Rattle.tag.specs.Table.{Input, input, scene, comes, liveOf}
+use Rattle.tag.specs.Table.{scene, command, liveOf}
+use Rattle.tag.specs.Steps.{input}
 use Rattle.tag.specs.Port.{portWrites, writtenWords, portWords}
 use Rattle.demands.specs.Calls.{Call, powerUp, admit, frame, ask, release, register, read, write, Tag, wordsIn}
 use Rattle.demands.specs.Demands.{Rising}
@@ -37,6 +35,7 @@ rising-row o f (suc n) =
     (all-below (λ u. u .at < o + n) (λ j. store (o + j) (f j)) n (λ j l. omega arith))
 
 rising-order : (c : Scene) (o : Order) → Rising (effectOf c o .words)
+rising-order c order.Nak = tt
 rising-order c order.ReqRn = tt
 rising-order c (order.Read s) = tt
 rising-order c (order.Write s w) = tt
@@ -84,15 +83,7 @@ module _ (y : Layout) (m : List ℕ) (at : ℕ) (d : List ℕ) where
 pub rising : (t : Tag) (c : Call) → Rising (wordsIn t c)
 rising t (powerUp s) = tt
 rising t (admit n) = tt
-rising t (frame f bits fresh room s) = go (heardOf f bits)
-  where
-    i : Input
-    i = input (t .session) (t .image) f bits fresh room s
-
-    go : (x : Message) → Rising (comes i x .words)
-    go (heard.refused k) = tt
-    go heard.nak = tt
-    go (heard.said c) = rising-order (scene i) (c .order)
+rising t (frame f bits fresh room s) = let i = input (t .session) (t .image) f bits fresh room s in rising-order (scene i) (command i .order)
 rising t ask = tt
 rising t release = tt
 rising t register = tt

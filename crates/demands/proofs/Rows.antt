@@ -1,9 +1,9 @@
 -- Which row of an answer table is given, and what a call stores where none of the refusals is. Assumes nothing.
 use Prim.Native.Nat.{ℕ, zero, suc, _+_, _/_, _%_, _≤_, _<_, min}
-use mathlib.Core.Path.{_≡_, refl, sym, ap, ap₂, _∙_, subst}
+use mathlib.Core.Path.{_≡_, refl, sym, ap, _∙_, subst}
 use mathlib.Core.Logic.{_⊎_, inl, inr}
 use mathlib.Core.Bool.{true≢false, Bool, true, false, cond, not, _&&_, _||_}
-use mathlib.Core.List.{List, [], _∷_}
+use mathlib.Core.List.{List, [], _∷_, _++_}
 use native.Mathlib.Omega.{arith}
 use native.Mathlib.Decide.{decLt}
 use lib.Dec.{eqb, ltb, lit<}
@@ -16,22 +16,21 @@ use Rattle.image.specs.declared.Layout.{Layout}
 use Rattle.image.specs.Layout.{layoutOf, pairsIn}
 use Rattle.image.specs.Content.{countIn}
 use Rattle.image.specs.Rules.{Good}
-use Rattle.frames.specs.declared.Command.{Command}
 use Rattle.frames.specs.Message.{Message}
 use Rattle.frames.specs.Message as heard
 use Rattle.frames.specs.Frames.{heardOf}
 use Rattle.frames.proofs.Orders.{said-small}
-use Rattle.replies.specs.declared.Reply.{Reply}
 use Rattle.rights.specs.declared.Code.{Code}
 use Rattle.rights.specs.declared.Code.the-variants as code
 use Rattle.stores.specs.Stores.{changeStores}
 use Rattle.tag.specs.declared.Session.{Session}
-use Rattle.tag.specs.Result.{Result, gives}
-use Rattle.states.specs.Commands.{isKilled, linkOf}
-use Rattle.plans.specs.Effects.{Effect}
-use Rattle.tag.specs.Session.{offSession}
-use Rattle.tag.specs.Table.{Input, input, isOff, liveOf, broken, comes, effect, replyOr, isError, replyOf, fits, storesOf, replied, cut, rows, frameOf}
-use Rattle.tag.specs.Port.{badCount, badData, portWords, refusals, registerTo, withKilled, withUnwritten, someUnwritten, writeOf}
+use Rattle.tag.specs.Result.{Result, lost, firstOf}
+use Rattle.tag.specs.Steps.{gives, input}
+use Rattle.states.specs.Commands.{isKilled}
+use Rattle.plans.specs.Effects.{Effect, effectOf}
+use Rattle.tag.specs.Table.{Input, isOff, liveOf, commandIn, scene, effect, isError, replyOf, fits, storesOf, replied, frameOf}
+use Rattle.tag.specs.Port.{badCount, badData, portWords, refusals, registerTo, writeOf}
+use Rattle.tag.specs.PortSteps.{wroteTo}
 use Rattle.tag.proofs.Plans.{none-or}
 use Rattle.demands.specs.Calls.{Tag, answerOf, wordsIn}
 use Rattle.demands.specs.Demands.{Storing, byRadio, byPort, lasting}
@@ -87,6 +86,15 @@ first-at k [] last h = absurd h
 first-at zero (r ∷ rs) last h = ap (λ (b : Bool). cond b (r .0) (first rs last)) h
 first-at (suc k) (r ∷ rs) last h = ap (λ (b : Bool). cond b (r .0) (first rs last)) (h .0) ∙ first-at k rs last (h .1)
 
+-- past rows that do not hold
+abbrev pub past : Rows → ℕ → ℕ
+past [] k = k
+past (r ∷ rs) k = suc (past rs k)
+
+pub reach-behind : (k : ℕ) (rs more : Rows) → None rs → Reaches k more → Reaches (past rs k) (rs ++ more)
+reach-behind k [] more n h = h
+reach-behind k (r ∷ rs) more n h = (n .0, reach-behind k rs more (n .1) h)
+
 -- refused, and nothing stored
 abbrev pub Refused : List ℕ → Result → Type 0
 Refused m r = (r .image ≡ m) × (0 < r .number)
@@ -130,34 +138,13 @@ no-error code.Nothing b p q = refl
 no-error (code.Error e) b p q =
     absurd (true≢false (sym q ∙ p))
 
--- two functions of what was heard, case by case
-pub heard-same : {A : Type 0} (f g : Message → A) → ((k : ℕ) → f (heard.refused k) ≡ g (heard.refused k)) → f heard.nak ≡ g heard.nak → ((c : Command) → f (heard.said c) ≡ g (heard.said c))
-    → (x : Message) → f x ≡ g x
-heard-same f g p q r (heard.refused k) = p k
-heard-same f g p q r heard.nak = q
-heard-same f g p q r (heard.said c) = r c
-
--- room and power matter to none of these
-module _ (v : Session) (m f : List ℕ) (bits fresh : ℕ) (a b : List ℕ) (p q : ℕ) where
-  pub same-broken : (x : Message) → broken (input v m f bits fresh a p) x ≡ broken (input v m f bits fresh b q) x
-  same-broken = heard-same (broken (input v m f bits fresh a p)) (broken (input v m f bits fresh b q)) (λ k. refl) refl (λ c. refl)
-
-  same-comes : (x : Message) → comes (input v m f bits fresh a p) x ≡ comes (input v m f bits fresh b q) x
-  same-comes = heard-same (comes (input v m f bits fresh a p)) (comes (input v m f bits fresh b q)) (λ k. refl) refl (λ c. refl)
-
-  pub same-effect : effect (input v m f bits fresh a p) ≡ effect (input v m f bits fresh b q)
-  same-effect = same-comes (heardOf f bits)
-
-  pub same-reply : replyOf (input v m f bits fresh a p) ≡ replyOf (input v m f bits fresh b q)
-  same-reply = ap (λ (x : Effect). replyOr (x .code) (linkOf (liveOf (v .power) .state) .handle) (x .reply)) same-effect
-
 -- a frame
 module _ (v : Session) (m f : List ℕ) (bits fresh : ℕ) (room : List ℕ) (g : Good (layoutOf m) m) where
   with-power : ℕ → Input
   with-power s = input v m f bits fresh room s
 
   front : ℕ → Rows
-  front s = take 11 (rows (with-power s))
+  front s = take 11 (frameOf changeStores (with-power s) .rows)
 
   words : List Store
   words = effect (with-power 0) .words
@@ -165,98 +152,70 @@ module _ (v : Session) (m f : List ℕ) (bits fresh : ℕ) (room : List ℕ) (g 
   radio : Storing
   radio = byRadio f bits fresh room
 
-  ends : ℕ → Result
-  ends s = cond (ltb s (length (storesOf (with-power s)))) (cut (with-power s)) (replied (with-power s) 0 (effect (with-power s) .state) (storesOf (with-power s)))
+  cut : ℕ → Result
+  cut s = lost m (storesOf changeStores (with-power s)) s room
 
-  split : (s : ℕ) → frameOf (with-power s) ≡ first (front s) (ends s)
-  unfolding frameOf with-power front ends
+  whole : ℕ → Result
+  whole s = replied (with-power s) 0 (effect (with-power s) .state) (storesOf changeStores (with-power s))
+
+  ends : ℕ → Result
+  ends s = cond (ltb s (length (storesOf changeStores (with-power s)))) (cut s) (whole s)
+
+  split : (s : ℕ) → firstOf (frameOf changeStores (with-power s)) ≡ first (front s) (ends s)
+  unfolding frameOf with-power front ends cut whole
   split s = refl
 
   front-refused : (s : ℕ) → Each (Refused m) (front s)
-  unfolding with-power front
+  unfolding frameOf with-power front
   front-refused s = (λ e. (refl, lit< tt), (λ e. (refl, lit< tt), (λ e. (refl, lit< tt), (λ e. (refl, lit< tt), (λ e. (refl, lit< tt), (λ e. (refl, lit< tt), (λ e. (refl, lit< tt), (λ e. (refl, lit< tt), (λ e. (refl, lit< tt), (λ e. (refl, lit< tt), (λ e. (refl, lit< tt), tt)))))))))))
 
   -- the power matters to no row of the front
-  module _ (a b : ℕ) where
-    same-front : None (front a) → None (front b)
-    unfolding with-power front
-    same-front h =
-        let r = h .1 .1 .1 .1 .1 .1 .1 .1 in (
-          h .0,
-          (
-            h .1 .0,
-            (
-              h .1 .1 .0,
-              (
-                h .1 .1 .1 .0,
-                (
-                  h .1 .1 .1 .1 .0,
-                  (
-                    h .1 .1 .1 .1 .1 .0,
-                    (
-                      h .1 .1 .1 .1 .1 .1 .0,
-                      (
-                        h .1 .1 .1 .1 .1 .1 .1 .0,
-                        (
-                          sym (same-broken v m f bits fresh room room a b (heardOf f bits)) ∙ r .0,
-                          (
-                            ap₂ (λ (x : Effect) (q : Reply). isError (x .code) && fits q room) (sym (same-effect v m f bits fresh room room a b)) (sym (same-reply v m f bits fresh room room a b)) ∙ r .1 .0,
-                            (ap (λ (q : Reply). not (fits q room)) (sym (same-reply v m f bits fresh room room a b)) ∙ r .1 .1 .0, tt),
-                          ),
-                        ),
-                      ),
-                    ),
-                  ),
-                ),
-              ),
-            ),
-          ),
-        )
+  same-front : (a b : ℕ) → None (front a) → None (front b)
+  unfolding frameOf with-power front
+  same-front a b h = h
 
   words-plan : None (front 0) → Plan (layoutOf m) m words
-  unfolding with-power front words
+  unfolding frameOf with-power front words
   words-plan h =
       go (heardOf f bits) refl
       (no-error (effect (with-power 0) .code) (fits (replyOf (with-power 0)) room) (h .1 .1 .1 .1 .1 .1 .1 .1 .1 .0)
       (not-false (fits (replyOf (with-power 0)) room) (h .1 .1 .1 .1 .1 .1 .1 .1 .1 .1 .0)))
     where
-      go : (x : Message) → heardOf f bits ≡ x → comes (with-power 0) x .code ≡ code.Nothing → Plan (layoutOf m) m (comes (with-power 0) x .words)
+      at : Message → Effect
+      at x = effectOf (scene (with-power 0)) (commandIn x .order)
+
+      go : (x : Message) → heardOf f bits ≡ x → at x .code ≡ code.Nothing → Plan (layoutOf m) m (at x .words)
       go (heard.refused k) q e = no-plan (layoutOf m) m
-      go heard.nak q e = no-plan (layoutOf m) m
       go (heard.said c) q e = order-plan (layoutOf m) m g (liveOf (v .power) .state) f fresh (c .order) (said-small f bits c q) e
 
   front-idle : None (front 0) → countIn (layoutOf m) m ≡ 0
-  unfolding with-power front
+  unfolding frameOf with-power front
   front-idle n = eqb-true _ _ (not-false _ (none-or (isOff (v .power)) (not (eqb (countIn (layoutOf m) m) 0)) (n .1 .1 .1 .0) .1))
 
   frame-acting : (a : ℕ) → None (front a) → Acting (layoutOf m) (record { session = v; image = m }) radio words
-  unfolding with-power words ends radio
+  unfolding with-power words ends radio cut whole
   frame-acting a h =
       record {
         idle = front-idle (same-front a 0 h);
         plan = words-plan (same-front a 0 h);
         image = λ s.
             ap (λ (r : Result). r .image) (split s ∙ none-first (front s) (ends s) (same-front a s h))
-            ∙ ends-image s m (storesOf (with-power s)) (cut (with-power s)) _ refl refl
-            ∙ ap (λ (x : Effect). after m (take s (changeStores (layoutOf m .work .at) (x .words)))) (same-effect v m f bits fresh room room s 0);
+            ∙ ends-image s m (storesOf changeStores (with-power s)) (cut s) (whole s) refl refl;
         stores = λ s.
             ap (λ (r : Result). r .stores) (split s ∙ none-first (front s) (ends s) (same-front a s h))
-            ∙ ends-stores s (storesOf (with-power s)) (cut (with-power s)) _ refl refl
-            ∙ ap (λ (x : Effect). min s (length (changeStores (layoutOf m .work .at) (x .words)))) (same-effect v m f bits fresh room room s 0);
+            ∙ ends-stores s (storesOf changeStores (with-power s)) (cut s) (whole s) refl refl;
         whole = λ s e.
-            subst (λ (x : Effect). length (changeStores (layoutOf m .work .at) (x .words)) ≤ s) (same-effect v m f bits fresh room room s 0)
-            (ends-whole s (storesOf (with-power s)) (cut (with-power s)) _ refl
-            (sym (ap (λ (r : Result). r .number) (split s ∙ none-first (front s) (ends s) (same-front a s h))) ∙ e));
+            ends-whole s (storesOf changeStores (with-power s)) (cut s) (whole s) refl
+            (sym (ap (λ (r : Result). r .number) (split s ∙ none-first (front s) (ends s) (same-front a s h))) ∙ e);
         fails = λ s l.
             ap (λ (r : Result). r .number) (split s ∙ none-first (front s) (ends s) (same-front a s h))
-            ∙ ap (λ (b : Bool). cond b (cut (with-power s)) (replied (with-power s) 0 (effect (with-power s) .state) (storesOf (with-power s))) .number)
-            (lt-ltb s _ (subst (λ (x : Effect). s < length (changeStores (layoutOf m .work .at) (x .words))) (same-effect v m f bits fresh room room 0 s) l));
+            ∙ ap (λ (b : Bool). cond b (cut s) (whole s) .number) (lt-ltb s (length (storesOf changeStores (with-power s))) l);
       }
 
-  frame-acts : (s : ℕ) → Refused m (frameOf (with-power s)) ⊎ Acting (layoutOf m) (record { session = v; image = m }) radio words
+  frame-acts : (s : ℕ) → Refused m (firstOf (frameOf changeStores (with-power s))) ⊎ Acting (layoutOf m) (record { session = v; image = m }) radio words
   frame-acts s = go (first-or (Refused m) (front s) (ends s) (front-refused s))
     where
-      go : Refused m (first (front s) (ends s)) ⊎ None (front s) → Refused m (frameOf (with-power s)) ⊎ Acting (layoutOf m) (record { session = v; image = m }) radio words
+      go : Refused m (first (front s) (ends s)) ⊎ None (front s) → Refused m (firstOf (frameOf changeStores (with-power s))) ⊎ Acting (layoutOf m) (record { session = v; image = m }) radio words
       go (inl r) = inl (subst (Refused m) (sym (split s)) r)
       go (inr h) = inr (frame-acting s h)
 
@@ -277,16 +236,16 @@ module _ (v : Session) (m : List ℕ) (at : ℕ) (d : List ℕ) (g : Good (layou
   stores : List Store
   stores = changeStores (y .work .at) port-words
 
-  lost : ℕ → Result
-  lost s = gives 11 offSession 0 s (after m (take s stores)) []
+  cut-off : ℕ → Result
+  cut-off s = lost m stores s []
 
   made : Result
   made =
       let l = liveOf (v .power) in
-      gives 0 (registerTo l (cond killed (withKilled (l .register)) (withUnwritten (someUnwritten y m at (length d / 2)) (l .register)))) 0 (length stores) (after m stores) []
+      gives 0 (registerTo l (wroteTo y m l at (length d / 2))) 0 (length stores) (after m stores) []
 
-  write-split : (s : ℕ) → writeOf v m at d s ≡ first before (cond (ltb s (length stores)) (lost s) made)
-  unfolding writeOf y killed port-words before stores lost made
+  write-split : (s : ℕ) → firstOf (writeOf changeStores v m at d s) ≡ first before (cond (ltb s (length stores)) (cut-off s) made)
+  unfolding writeOf y killed port-words before stores cut-off made
   write-split s = refl
 
   before-refused : Each (Refused m) before
@@ -307,30 +266,30 @@ module _ (v : Session) (m : List ℕ) (at : ℕ) (d : List ℕ) (g : Good (layou
           port-plan (layoutOf m) m g at d n (ltb-false _ _ (fit .1)) (ltb-false _ _ (few .1))
 
   write-acting : None before → Acting (layoutOf m) (record { session = v; image = m }) (byPort at d) port-words
-  unfolding before y stores lost made
+  unfolding before y stores cut-off made
   write-acting h =
       record {
         idle = eqb-true _ _ (not-false _ (none-or (isOff (v .power)) (not (eqb (countIn (layoutOf m) m) 0)) (h .1 .1 .1 .0) .1));
         plan = port-planned h;
         image = λ s.
-            ap (λ (r : Result). r .image) (write-split s ∙ none-first before (cond (ltb s (length stores)) (lost s) made) h)
-            ∙ ends-image s m stores (lost s) made refl refl;
+            ap (λ (r : Result). r .image) (write-split s ∙ none-first before (cond (ltb s (length stores)) (cut-off s) made) h)
+            ∙ ends-image s m stores (cut-off s) made refl refl;
         stores = λ s.
-            ap (λ (r : Result). r .stores) (write-split s ∙ none-first before (cond (ltb s (length stores)) (lost s) made) h)
-            ∙ ends-stores s stores (lost s) made refl refl;
+            ap (λ (r : Result). r .stores) (write-split s ∙ none-first before (cond (ltb s (length stores)) (cut-off s) made) h)
+            ∙ ends-stores s stores (cut-off s) made refl refl;
         whole = λ s e.
-            ends-whole s stores (lost s) made refl
-            (sym (ap (λ (r : Result). r .number) (write-split s ∙ none-first before (cond (ltb s (length stores)) (lost s) made) h)) ∙ e);
+            ends-whole s stores (cut-off s) made refl
+            (sym (ap (λ (r : Result). r .number) (write-split s ∙ none-first before (cond (ltb s (length stores)) (cut-off s) made) h)) ∙ e);
         fails = λ s l.
-            ap (λ (r : Result). r .number) (write-split s ∙ none-first before (cond (ltb s (length stores)) (lost s) made) h)
-            ∙ ap (λ (b : Bool). cond b (lost s) made .number) (lt-ltb s (length stores) l);
+            ap (λ (r : Result). r .number) (write-split s ∙ none-first before (cond (ltb s (length stores)) (cut-off s) made) h)
+            ∙ ap (λ (b : Bool). cond b (cut-off s) made .number) (lt-ltb s (length stores) l);
       }
 
-  write-acts : (s : ℕ) → Refused m (writeOf v m at d s) ⊎ Acting (layoutOf m) (record { session = v; image = m }) (byPort at d) port-words
-  write-acts s = go (first-or (Refused m) before (cond (ltb s (length stores)) (lost s) made) before-refused)
+  write-acts : (s : ℕ) → Refused m (firstOf (writeOf changeStores v m at d s)) ⊎ Acting (layoutOf m) (record { session = v; image = m }) (byPort at d) port-words
+  write-acts s = go (first-or (Refused m) before (cond (ltb s (length stores)) (cut-off s) made) before-refused)
     where
-      go : Refused m (first before (cond (ltb s (length stores)) (lost s) made)) ⊎ None before
-          → Refused m (writeOf v m at d s) ⊎ Acting (layoutOf m) (record { session = v; image = m }) (byPort at d) port-words
+      go : Refused m (first before (cond (ltb s (length stores)) (cut-off s) made)) ⊎ None before
+          → Refused m (firstOf (writeOf changeStores v m at d s)) ⊎ Acting (layoutOf m) (record { session = v; image = m }) (byPort at d) port-words
       go (inl r) = inl (subst (Refused m) (sym (write-split s)) r)
       go (inr h) = inr (write-acting h)
 
@@ -354,10 +313,5 @@ acts y t c s g = subst (λ (z : Layout). Refused (t .image) (answerOf t (lasting
 -- the words do not hang on the power
 pub words-lasting : (t : Tag) (c : Storing) (s : ℕ) → wordsIn t (lasting c s) ≡ wordsOf t c
 unfolding wordsOf
-words-lasting t (byRadio f bits fresh room) s = go (heardOf f bits)
-  where
-    go : (x : Message) → comes (input (t .session) (t .image) f bits fresh room s) x .words ≡ comes (input (t .session) (t .image) f bits fresh room 0) x .words
-    go (heard.refused k) = refl
-    go heard.nak = refl
-    go (heard.said c) = refl
+words-lasting t (byRadio f bits fresh room) s = refl
 words-lasting t (byPort at d) s = refl

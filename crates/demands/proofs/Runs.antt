@@ -26,9 +26,9 @@ use Rattle.stores.proofs.Sane.{none-pending}
 use Rattle.stores.proofs.Mixed.{joined, Lows, run-fine, cut-by, cut-lows}
 use Rattle.stores.proofs.Cuts.{change-left, power-left}
 use Rattle.tag.specs.declared.Session.{Session}
-use Rattle.tag.specs.Result.{Result, leaves}
+use Rattle.tag.specs.Result.{Result, leaves, firstOf}
 use Rattle.tag.specs.Port.{badCount, refusals, readOf}
-use Rattle.demands.specs.Calls.{Call, powerUp, admit, frame, ask, release, register, read, write, Tag, answerOf, torn, Turn, run}
+use Rattle.demands.specs.Calls.{Call, powerUp, admit, frame, ask, release, register, read, write, Tag, answerOf, torn, Turn, runImage}
 use Rattle.demands.specs.Demands.{Storing, byRadio, byPort, lasting, Kept, AnyRun}
 use Rattle.demands.proofs.Sound.{PairKept, Keeps, Sound, free-keeps}
 use Rattle.demands.proofs.Plans.{Plan, no-plan, plan-change}
@@ -187,6 +187,7 @@ module _ (y : Layout) (m : List ℕ) (g : Header y m) where
         header = λ l. e;
         tid = λ l n. e;
         locks = λ q k l p. (ap (λ (x : ℕ). permaBit x k) e ∙ p, ap (λ (x : ℕ). pwdBit x k) e);
+        killed = λ q p. e ∙ p;
         blocks = λ l n t p. ap (λ (x : ℕ). x / 2 ^ t % 2) e ∙ p;
         words = λ l n p. e;
       }
@@ -219,6 +220,7 @@ module _ (y : Layout) (m n : List ℕ) (ss : List Store) (g : Good y m) (h : Goo
         tid = λ l n. same (k .tid l n);
         locks = λ q j l e.
             (let s = k .locks q j l e in ⊎-elim (λ d. (d .0 ∙ e, d .1)) (λ d. (d .0 ∙ s .0, d .1 ∙ s .1)) (between-pair (wordAt m i) v u j b));
+        killed = λ q e. same (k .killed q e ∙ sym e) ∙ e;
         blocks = λ l n t e. ⊎-elim (λ d. d ∙ e) (λ d. d ∙ k .blocks l n t e) (between-bit (wordAt m i) v u t b);
         words = λ l n e. same (k .words l n e);
       }
@@ -266,6 +268,7 @@ module _ (y : Layout) (m n : List ℕ) (ss : List Store) (g : Good y m) (h : Goo
             header = λ l. back (k .header l);
             tid = λ l n. back (k .tid l n);
             locks = λ z j l e. ⊎-elim (λ d. pair z j l (d .0) (d .1) e) (λ d. (sym (d .0) ∙ e, sym (d .1))) (between-pair (wordAt m i) v (wordAt n i) j b);
+            killed = λ z e. puts-all (Sound y m) ss (p .sound) i v q .kills z;
             blocks = λ l h t e. ⊎-elim (λ d. k .blocks l h t (sym d ∙ e)) (λ d. sym d ∙ e) (between-bit (wordAt m i) v (wordAt n i) t b);
             words = λ l n e. back (k .words l n (sym (perma-same l n) ∙ e));
           }
@@ -283,7 +286,7 @@ module _ (y : Layout) (m n : List ℕ) (ss : List Store) (g : Good y m) (h : Goo
       go (inr (inr r)) = still (subst (λ (x : ℕ). Between (wordAt m i) x (wordAt n i)) (sym own) (r .1))
 
   put-sound : (s : Store) → Sound y m s × Puts ss (s .at) (s .value) → Sound y n s
-  put-sound s (f, q) = record { goes = f .goes; ok = f .ok; keeps = put-again (s .at) (s .value) (go-below y m hd (s .at) (f .goes) .1) q }
+  put-sound s (f, q) = record { goes = f .goes; ok = f .ok; keeps = put-again (s .at) (s .value) (go-below y m hd (s .at) (f .goes) .1) q; kills = f .kills }
 
   again-plan : Plan y n ss
   again-plan =
@@ -365,7 +368,7 @@ module _ (y : Layout) (m : List ℕ) (s : Steady y m) (h : Lows m) (v : Session)
       go (inr a) q = acting-next c k j a
       go (inl p) (inr a) = acting-next c k j a
 
-  read-same : (at count : ℕ) (room : List ℕ) → readOf v m at count room .image ≡ m
+  read-same : (at count : ℕ) (room : List ℕ) → firstOf (readOf v m at count room) .image ≡ m
   unfolding readOf
   read-same at count room =
       first-each (λ (r : Result). r .image ≡ m) (refusals v m room (badCount (layoutOf m) at count) ++ ((leaves 4 v m room, ltb (length room) (2 * count)) ∷ [])) _
@@ -392,6 +395,7 @@ keeps-then y m n g f i v l k =
       header = λ a. k .header a ∙ f i l .header a;
       tid = λ a b. k .tid a b ∙ f i l .tid a b;
       locks = λ q j a e. (let s = f i l .locks q j a e in let r = k .locks q j a (s .0) in (r .0, r .1 ∙ s .1));
+      killed = λ q e. k .killed q (f i l .killed q e);
       blocks = λ a b t e. k .blocks a b t (f i l .blocks a b t e);
       words = λ a b e. k .words a b (locked a b e) ∙ f i l .words a b e;
     }
@@ -402,18 +406,18 @@ keeps-then y m n g f i v l k =
         let w : j / 16 < y .perma .words = perma-word y m (g .header) j (block-small y m (g .header) (i - y .user .at) (omega arith)) in
         f (y .perma .at + j / 16) (omega (arith, w, g .header .work .at)) .blocks (omega arith) (omega (arith, w)) (15 - j % 16) e
 
-runs : (y : Layout) (m : List ℕ) (cs : List Turn) → Steady y m → Lows m → Step y m (run answerOf m cs) × Lows (run answerOf m cs)
+runs : (y : Layout) (m : List ℕ) (cs : List Turn) → Steady y m → Lows m → Step y m (runImage answerOf m cs) × Lows (runImage answerOf m cs)
 unfolding Next tag
 runs y m [] s h = (stay y m s, h)
 runs y m (c ∷ cs) s h =
     let n = torn answerOf (record { session = c .session; image = m }) (c .call) (c .byte) in
     let a : Step y m n × Lows n = next y m s h (c .session) (c .call) (c .byte) in
     let b = runs y n cs (a .0 .steady) (a .1) in (
-      record { keeps = λ i l. keeps-then y m n (s .sound) (a .0 .keeps) i (wordAt (run answerOf n cs) i) l (b .0 .keeps i l); steady = b .0 .steady },
+      record { keeps = λ i l. keeps-then y m n (s .sound) (a .0 .keeps) i (wordAt (runImage answerOf n cs) i) l (b .0 .keeps i l); steady = b .0 .steady },
       b .1,
     )
 
-pub run-append : (m : List ℕ) (cs ds : List Turn) → run answerOf m (cs ++ ds) ≡ run answerOf (run answerOf m cs) ds
+pub run-append : (m : List ℕ) (cs ds : List Turn) → runImage answerOf m (cs ++ ds) ≡ runImage answerOf (runImage answerOf m cs) ds
 run-append m [] ds = refl
 run-append m (c ∷ cs) ds = run-append (torn answerOf (record { session = c .session; image = m }) (c .call) (c .byte)) cs ds
 
@@ -428,6 +432,7 @@ kept y m n g s =
       tid = λ i a b. f i (omega arith) .tid a b;
       locks = λ k l e. f (y .status .at) (omega arith) .locks refl k l e .0;
       pairs = λ k l e. f (y .status .at) (omega arith) .locks refl k l e .1;
+      killed = λ e. f (y .status .at + 1) (omega arith) .killed refl e;
       blocks = λ b l e. (let w : b / 16 < y .perma .words = perma-word y m hd b l in
           f (y .perma .at + b / 16) (omega (arith, w)) .blocks (omega arith) (omega (arith, w)) (15 - b % 16) e);
       words = λ i l e. (let z : y .user .at + i - y .user .at ≡ i = omega arith in
@@ -439,5 +444,5 @@ any-run y m before later bytes idle =
     let g = check-good m y (idle .sound) in
     let s : Steady y m = record { sound = g; plan = subst (Plan y m) (sym (none-pending y m (idle .nothing))) (no-plan y m) } in
     let a = runs y m before s (λ i. bytes (2 * i + 1)) in
-    let n = run answerOf m before in
-    rw (run-append m before later) (kept y n (run answerOf n later) (a .0 .steady .sound) (runs y n later (a .0 .steady) (a .1) .0))
+    let n = runImage answerOf m before in
+    rw (run-append m before later) (kept y n (runImage answerOf n later) (a .0 .steady .sound) (runs y n later (a .0 .steady) (a .1) .0))

@@ -1,6 +1,6 @@
 -- When the room is too small or the power too short: the same frame in two rooms comes to the same row but for the reply that doesn't fit. Assumes nothing.
 use Prim.Native.Nat.{ℕ, _*_, _<_}
-use mathlib.Core.Path.{_≡_, refl, sym, ap, _∙_, subst}
+use mathlib.Core.Path.{_≡_, refl, ap, _∙_, subst}
 use mathlib.Core.Logic.{_⊎_, inl, inr}
 use mathlib.Core.Bool.{Bool, true, false, cond, not, _&&_}
 use mathlib.Core.List.{List, []}
@@ -12,18 +12,19 @@ use Rattle.bits.specs.First.{first}
 use Rattle.image.specs.declared.Layout.{Layout}
 use Rattle.image.specs.Check.{checkOf, good}
 use Rattle.image.proofs.Answers.{check-good}
-use Rattle.frames.specs.Frames.{heardOf}
-use Rattle.replies.specs.declared.Reply.{Reply}
-use Rattle.replies.specs.Replies.{replyLength, replyBytes}
+use Rattle.replies.specs.Replies.{replyLength}
+use Rattle.replies.specs.Steps.{replyBytes}
 use Rattle.states.specs.Commands.{used}
 use Rattle.tag.specs.declared.Session.{Session}
-use Rattle.tag.specs.Result.{Result}
-use Rattle.tag.specs.Table.{Input, input, liveOf, effect, isError, replyOf, fits, storesOf, everything, cut, replied, rows, frameOf}
+use Rattle.tag.specs.Result.{Result, lost, firstOf}
+use Rattle.tag.specs.Steps.{input}
+use Rattle.stores.specs.Stores.{changeStores}
+use Rattle.tag.specs.Table.{Input, liveOf, effect, isError, replyOf, fits, storesOf, everything, replied, frameOf}
 use Rattle.demands.specs.Calls.{Tag, answerOf}
 use Rattle.demands.specs.Demands.{Storing, lasting}
 use Rattle.demands.specs.Refusals.{TooLittle}
 use Rattle.demands.proofs.Codes.{and-false}
-use Rattle.demands.proofs.Rows.{Rows, None, Each, first-or, none-first, first-at, same-broken, same-reply, Refused, Acting, wordsOf, acts}
+use Rattle.demands.proofs.Rows.{Rows, None, Each, first-or, none-first, first-at, reach-behind, Refused, Acting, wordsOf, acts}
 use Rattle.demands.proofs.Cuts.{power-fails, power-made}
 
 -- answered with a reply
@@ -40,20 +41,20 @@ module _ (v : Session) (m f : List ℕ) (bits fresh : ℕ) where
 
   -- rows 1 to 12, and what follows them
   before : List ℕ → ℕ → Rows
-  before room power = take 9 (rows (at room power))
+  before room power = take 9 (frameOf changeStores (at room power) .rows)
 
   done : List ℕ → ℕ → Result
-  done room power = replied (at room power) 0 (effect (at room power) .state) (storesOf (at room power))
+  done room power = replied (at room power) 0 (effect (at room power) .state) (storesOf changeStores (at room power))
 
   behind : List ℕ → ℕ → Result
-  behind room power = first (drop 9 (rows (at room power))) (done room power)
+  behind room power = first (drop 9 (frameOf changeStores (at room power) .rows)) (done room power)
 
-  split : (room : List ℕ) (power : ℕ) → frameOf (at room power) ≡ first (before room power) (behind room power)
+  split : (room : List ℕ) (power : ℕ) → firstOf (frameOf changeStores (at room power)) ≡ first (before room power) (behind room power)
   unfolding frameOf at before behind done
   split room power = refl
 
   silent : (room : List ℕ) (power : ℕ) → Each (λ r. Replies r → ⊥) (before room power)
-  unfolding at before
+  unfolding frameOf at before
   silent room power = (
     λ e. never 1 (omega arith) (omega arith),
     (
@@ -76,14 +77,14 @@ module _ (v : Session) (m f : List ℕ) (bits fresh : ℕ) where
 
   -- what a reply behind them is
   reply-behind : (room : List ℕ) (power : ℕ) → Replies (behind room power) → behind room power .reply ≡ replyLength (replyOf (at room power))
-  unfolding at behind done
+  unfolding frameOf at behind done
   reply-behind room power h =
-      go (isError (effect (at room power) .code) && fits (replyOf (at room power)) room) (fits (replyOf (at room power)) room) (ltb power (length (storesOf (at room power)))) h
+      go (isError (effect (at room power) .code) && fits (replyOf (at room power)) room) (fits (replyOf (at room power)) room) (ltb power (length (storesOf changeStores (at room power)))) h
     where
       rest : Bool → Bool → Bool → Result
       rest a b c =
           cond a (replied (at room power) 10 (used (liveOf (v .power) .state)) [])
-          (cond (not b) (everything (at room power) 4) (cond c (cut (at room power)) (done room power)))
+          (cond (not b) (everything (at room power) 4) (cond c (lost m (storesOf changeStores (at room power)) power room) (done room power)))
 
       go : (a b c : Bool) → Replies (rest a b c) → rest a b c .reply ≡ replyLength (replyOf (at room power))
       go true b c h = refl
@@ -93,45 +94,20 @@ module _ (v : Session) (m f : List ℕ) (bits fresh : ℕ) where
 
   -- room and power matter to nothing before, and not to the reply
   module _ (a b : List ℕ) (p q : ℕ) where
-    tight : Replies (frameOf (at b q)) → 8 * length a < frameOf (at b q) .reply → frameOf (at a p) ≡ everything (at a p) 4
+    tight : Replies (firstOf (frameOf changeStores (at b q))) → 8 * length a < firstOf (frameOf changeStores (at b q)) .reply → firstOf (frameOf changeStores (at a p)) ≡ everything (at a p) 4
     unfolding frameOf at before behind done
     tight h l = go (first-or (λ r. Replies r → ⊥) (before b q) (behind b q) (silent b q))
       where
-        go : (Replies (first (before b q) (behind b q)) → ⊥) ⊎ None (before b q) → frameOf (at a p) ≡ everything (at a p) 4
+        go : (Replies (first (before b q) (behind b q)) → ⊥) ⊎ None (before b q) → firstOf (frameOf changeStores (at a p)) ≡ everything (at a p) 4
         go (inl n) = absurd (n (subst Replies (split b q) h))
         go (inr n) =
-            let is : frameOf (at b q) ≡ behind b q = split b q ∙ none-first (before b q) (behind b q) n in
+            let is : firstOf (frameOf changeStores (at b q)) ≡ behind b q = split b q ∙ none-first (before b q) (behind b q) n in
             let long : 8 * length a < replyLength (replyOf (at b q)) = rw (ap (λ (r : Result). r .reply) is ∙ reply-behind b q (subst Replies is h)) at l in
-            let small : length a < replyBytes (replyOf (at a p)) = subst (λ (r : Reply). length a < replyBytes r) (sym (same-reply v m f bits fresh a b p q)) (omega (arith, long)) in
+            let small : length a < replyBytes (replyOf (at a p)) = omega (arith, long) in
             let no : fits (replyOf (at a p)) a ≡ false = ap not (lt-ltb (length a) (replyBytes (replyOf (at a p))) small) in
-            first-at 10 (rows (at a p)) (done a p) (
-              n .0,
-              (
-                n .1 .0,
-                (
-                  n .1 .1 .0,
-                  (
-                    n .1 .1 .1 .0,
-                    (
-                      n .1 .1 .1 .1 .0,
-                      (
-                        n .1 .1 .1 .1 .1 .0,
-                        (
-                          n .1 .1 .1 .1 .1 .1 .0,
-                          (
-                            n .1 .1 .1 .1 .1 .1 .1 .0,
-                            (
-                              same-broken v m f bits fresh a b p q (heardOf f bits) ∙ n .1 .1 .1 .1 .1 .1 .1 .1 .0,
-                              (ap (λ (t : Bool). isError (effect (at a p) .code) && t) no ∙ and-false (isError (effect (at a p) .code)), ap not no),
-                            ),
-                          ),
-                        ),
-                      ),
-                    ),
-                  ),
-                ),
-              ),
-            )
+            first-at 10 (frameOf changeStores (at a p) .rows) (done a p)
+            (reach-behind 1 (before a p) (drop 9 (frameOf changeStores (at a p) .rows)) n
+            (ap (λ (t : Bool). isError (effect (at a p) .code) && t) no ∙ and-false (isError (effect (at a p) .code)), ap not no))
 
 pub short : TooLittle answerOf
 unfolding at
@@ -139,7 +115,7 @@ short =
     record {
       room = λ a s other enough h l. tight s (a .image) (a .frame) (a .bits) (a .fresh) (a .room) other (a .power) enough h l;
       power = λ y t c s enough e z l. power y t c s enough e z l;
-      start = λ y m v s enough e z l.
+      power-up = λ y m v s enough e z l.
           (let g = check-good m y e in power-fails y m g s (subst (λ (k : ℕ). s < k) (power-made y m g enough z) l));
     }
   where

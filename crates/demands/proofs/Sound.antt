@@ -28,6 +28,7 @@ pub record Keeps (y : Layout) (m : List ℕ) (i v : ℕ) : Type 0 where
   pub header : i < 16 → v ≡ wordAt m i
   pub tid : y .tid .at ≤ i → i < end (y .tid) → v ≡ wordAt m i
   pub locks : i ≡ y .status .at → (k : ℕ) → k < 5 → PairKept (wordAt m i) v k
+  pub killed : i ≡ y .status .at + 1 → wordAt m i ≡ 1 → v ≡ 1
   pub blocks : y .perma .at ≤ i → i < end (y .perma) → (t : ℕ) → wordAt m i / 2 ^ t % 2 ≡ 1 → v / 2 ^ t % 2 ≡ 1
   pub words : y .user .at ≤ i → i < end (y .user) → permalock y m ((i - y .user .at) / y .block) ≡ 1 → v ≡ wordAt m i
 
@@ -36,6 +37,7 @@ pub record Sound (y : Layout) (m : List ℕ) (s : Store) : Type 0 where
   pub goes : mayGo y (s .at) ≡ true
   pub ok : Ok y (s .at) (s .value)
   pub keeps : Keeps y m (s .at) (s .value)
+  pub kills : s .at ≡ y .status .at + 1 → s .value ≡ 1
 
 module _ (y : Layout) (m : List ℕ) (g : Header y m) where
   size : y .perma .words ≡ (blocksIn y + 15) / 16
@@ -45,13 +47,14 @@ module _ (y : Layout) (m : List ℕ) (g : Header y m) where
   before-perma : (i v : ℕ) → i < y .perma .at → i + 1 ≡ end (y .perma) → v % 2 ^ spareIn y ≡ 0
   before-perma i v l q = let z : spareIn y ≡ 0 = omega (arith, size) in rw z (mod-one v)
 
-  -- past the lock word and before TID nothing is to be kept
-  pub free-keeps : (i v : ℕ) → y .status .at < i → i < y .tid .at → Keeps y m i v
+  -- past STATUS and before TID nothing is to be kept
+  pub free-keeps : (i v : ℕ) → y .status .at + 1 < i → i < y .tid .at → Keeps y m i v
   free-keeps i v a b =
       record {
         header = λ l. absurd (omega arith);
         tid = λ l n. absurd (omega arith);
         locks = λ q k l. absurd (omega arith);
+        killed = λ q e. absurd (omega arith);
         blocks = λ l n t e. absurd (omega arith);
         words = λ l n e. absurd (omega arith);
       }
@@ -63,6 +66,7 @@ module _ (y : Layout) (m : List ℕ) (g : Header y m) where
         goes = go-low y m g i (omega arith) (omega arith);
         ok = ok-if y i v (λ q. absurd (omega arith)) (λ q. absurd (omega arith)) (λ q. absurd (omega arith)) (λ q. absurd (omega arith));
         keeps = free-keeps i v (omega arith) (omega arith);
+        kills = λ q. absurd (omega arith);
       }
 
   -- a word of EPC; where it is the PC, its length fits
@@ -72,6 +76,7 @@ module _ (y : Layout) (m : List ℕ) (g : Header y m) where
         goes = go-low y m g i (omega arith) (omega arith);
         ok = ok-if y i v (λ q. absurd (omega arith)) (λ q. absurd (omega arith)) pc (before-perma i v (omega arith));
         keeps = free-keeps i v (omega arith) (omega arith);
+        kills = λ q. absurd (omega arith);
       }
 
   -- a word of USER in a block that is not permalocked
@@ -85,9 +90,11 @@ module _ (y : Layout) (m : List ℕ) (g : Header y m) where
               header = λ l. absurd (omega arith);
               tid = λ l n. absurd (omega arith);
               locks = λ q k l. absurd (omega arith);
+              killed = λ q e. absurd (omega arith);
               blocks = λ l n t e. absurd (omega arith);
               words = λ l n e. absurd (closed e);
             };
+        kills = λ q. absurd (omega arith);
       }
     where
       closed : permalock y m ((y .user .at + i - y .user .at) / y .block) ≡ 1 → ⊥
@@ -108,9 +115,11 @@ module _ (y : Layout) (m : List ℕ) (g : Header y m) where
               header = λ l. absurd (omega arith);
               tid = λ l n. absurd (omega arith);
               locks = λ q k l. h k l;
+              killed = λ q e. absurd (omega arith);
               blocks = λ l n t e. absurd (omega arith);
               words = λ l n e. absurd (omega arith);
             };
+        kills = λ q. absurd (omega arith);
       }
 
   -- the killed word
@@ -119,7 +128,16 @@ module _ (y : Layout) (m : List ℕ) (g : Header y m) where
       record {
         goes = go-low y m g (y .status .at + 1) (omega arith) (omega arith);
         ok = ok-if y (y .status .at + 1) 1 (λ q. absurd (omega arith)) (λ q. omega arith) (λ q. absurd (omega arith)) (λ q. absurd (omega arith));
-        keeps = free-keeps (y .status .at + 1) 1 (omega arith) (omega arith);
+        keeps =
+            record {
+              header = λ l. absurd (omega arith);
+              tid = λ l n. absurd (omega arith);
+              locks = λ q k l. absurd (omega arith);
+              killed = λ q e. refl;
+              blocks = λ l n t e. absurd (omega arith);
+              words = λ l n e. absurd (omega arith);
+            };
+        kills = λ q. refl;
       }
 
   -- a word of PERMA with bits added, none of them of a block that doesn't exist
@@ -135,9 +153,11 @@ module _ (y : Layout) (m : List ℕ) (g : Header y m) where
               header = λ l. absurd (omega arith);
               tid = λ l n. absurd (omega arith);
               locks = λ q k l. absurd (omega arith);
+              killed = λ q e. absurd (omega arith);
               blocks = λ l n t e. or-keeps (wordAt m (y .perma .at + i)) b t e;
               words = λ l n e. absurd (omega arith);
             };
+        kills = λ q. absurd (omega arith);
       }
     where
       spare : (t : ℕ) → t < spareIn y → i + 1 ≡ y .perma .words → bitOr (wordAt m (y .perma .at + i)) b / 2 ^ t % 2 ≡ 0

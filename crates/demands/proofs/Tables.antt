@@ -20,9 +20,6 @@ use Rattle.image.proofs.Answers.{check-good, good-check}
 use Rattle.image.specs.declared.Fit.{Fit}
 use Rattle.image.specs.declared.Fit.the-variants as fit
 use Rattle.image.specs.Check.{checkOf, Checked, refused, good, meaning}
-use Rattle.frames.specs.Message.{Message}
-use Rattle.frames.specs.Message as heard
-use Rattle.frames.specs.Frames.{heardOf}
 use Rattle.replies.specs.declared.Reply.{Reply}
 use Rattle.replies.specs.declared.Reply.the-variants as reply
 use Rattle.replies.specs.Replies.{replyBits, replyLength}
@@ -30,19 +27,20 @@ use Rattle.replies.specs.Pack.{packed}
 use Rattle.replies.proofs.Laws.{packed-none}
 use Rattle.rights.specs.declared.Code.{Code}
 use Rattle.rights.specs.declared.Code.the-variants as code
-use Rattle.states.specs.declared.State.the-variants as state
+use Rattle.rights.specs.declared.Fault.the-variants as fault
 use Rattle.tag.specs.declared.Session.{Session}
 use Rattle.tag.specs.Session.{offSession}
-use Rattle.tag.specs.Result.{Result, leaves}
+use Rattle.tag.specs.Result.{Result, leaves, firstOf, lost}
 use Rattle.tag.specs.One.{one-outcome}
 use Rattle.states.specs.Commands.{linkOf, isKilled, used}
-use Rattle.tag.specs.Power.{powerRows, powered, powerUpOf}
-use Rattle.tag.specs.Table.{Input, input, scene, comes, stateOf, liveOf, isError, effect, replyOr, replyOf, fits, dropped, replied, rows, obeyed, frameOf, admitRows, admitted, admitOf}
-use Rattle.tag.specs.Port.{askRows, granted, askOf, holderRows, released, releaseOf, told, registerOf, readBits, readRows, shown, readOf, writeRows, written, writeOf}
-use Rattle.demands.specs.Calls.{Call, powerUp, admit, frame, ask, release, register, read, write, Tag, answerOf, sessionIn, imageIn, roomIn, powerIn, storesIn, valueIn, rowsIn, doneIn}
-use Rattle.demands.specs.Demands.{refuses, AnErrorCode, Tabled, Checks, orderOf, numbersOf, Under, Exact, Demand1}
+use Rattle.tag.specs.Power.{powerUpOf}
+use Rattle.tag.specs.Table.{Input, stateOf, liveOf, isError, effect, replyOr, replyOf, fits, dropped, replied, frameOf, admitOf}
+use Rattle.tag.specs.Steps.{input}
+use Rattle.stores.specs.Stores.{changeStores}
+use Rattle.tag.specs.Port.{askOf, releaseOf, registerOf, readBits, readOf, writeOf}
+use Rattle.demands.specs.Calls.{Call, powerUp, admit, frame, ask, release, register, read, write, Tag, answerOf, sessionIn, imageIn, roomIn, powerIn, storesIn, valueIn, answersIn}
+use Rattle.demands.specs.Demands.{refuses, AnErrorCode, Tabled, Checks, orderIn, numbersOf, Under, Exact, Demand1}
 use Rattle.demands.proofs.Rows.{Rows, Each, first-each}
-use Rattle.demands.proofs.Codes.{Among, effect-among}
 
 refusal-small : (n : ℕ) → refuses n ≡ true → n ≤ 13
 refusal-small n e =
@@ -125,18 +123,11 @@ module _ (v : Session) (m f : List ℕ) (bits fresh : ℕ) (room : List ℕ) (s 
   error-same (code.Error c) b h r q = refl
 
   -- and it is one of the three
-  heard-among : Among (effect handed .code)
-  unfolding handed
-  heard-among = go (heardOf f bits)
-    where
-      go : (x : Message) → Among (comes handed x .code)
-      go (heard.refused k) = inl refl
-      go heard.nak = inl refl
-      go (heard.said k) = effect-among (scene handed) (k .order)
-
-  code-known : (e : Code) (b : Bool) → Among e → isError e && b ≡ true → AnErrorCode e
-  code-known e b (inl q) d = absurd (false≢true (sym (ap (λ (x : Code). isError x && b) q) ∙ d))
-  code-known e b (inr q) d = q
+  code-known : (e : Code) (b : Bool) → isError e && b ≡ true → AnErrorCode e
+  code-known code.Nothing b q = absurd (false≢true q)
+  code-known (code.Error fault.Other) b q = inl refl
+  code-known (code.Error fault.PastEnd) b q = inr (inl refl)
+  code-known (code.Error fault.NoRight) b q = inr (inr refl)
 
   error-row : isError (effect handed .code) && fits (replyOf handed) room ≡ true → Tabled tag call (replied handed 10 (used (stateOf handed)) [])
   unfolding tag call handed
@@ -149,7 +140,7 @@ module _ (v : Session) (m f : List ℕ) (bits fresh : ℕ) (room : List ℕ) (s 
         listed = lit≤ tt;
         everything = λ q. absurd (false≢true q);
         error = λ q. (refl, refl, refl, error-length c b h d e, ap (λ (x : Reply). packed (replyBits m x) room) (error-same c b h d e));
-        coded = λ q. code-known c b heard-among e;
+        coded = λ q. code-known c b e;
         lost = λ q. absurd (omega arith);
         dropped = λ q. absurd (omega arith);
         silent = silence m room (replyOf handed);
@@ -157,7 +148,7 @@ module _ (v : Session) (m f : List ℕ) (bits fresh : ℕ) (room : List ℕ) (s 
         value = refl;
       }
 
-  dropped-row : Tabled tag call (dropped handed)
+  dropped-row : Tabled tag call (dropped handed 12)
   unfolding tag call handed
   dropped-row =
       record {
@@ -172,8 +163,8 @@ module _ (v : Session) (m f : List ℕ) (bits fresh : ℕ) (room : List ℕ) (s 
         value = refl;
       }
 
-  frame-rows : Each (Tabled tag call) (rows handed)
-  unfolding tag call handed
+  frame-rows : Each (Tabled tag call) (frameOf changeStores handed .rows)
+  unfolding frameOf tag call handed
   frame-rows = (
     λ e. refusal tag call 1 refl,
     (
@@ -200,22 +191,22 @@ module _ (v : Session) (m f : List ℕ) (bits fresh : ℕ) (room : List ℕ) (s 
     ),
   )
 
-  frame-tabled : Tabled tag call (frameOf handed)
+  frame-tabled : Tabled tag call (firstOf (frameOf changeStores handed))
   unfolding frameOf tag call handed
   frame-tabled =
-      first-each (Tabled tag call) (rows handed) (obeyed handed) frame-rows
-      (zero-answer tag call (obeyed handed) refl (silence m room (replyOf handed)) (refl, refl) refl)
+      first-each (Tabled tag call) (frameOf changeStores handed .rows) (frameOf changeStores handed .done) frame-rows
+      (zero-answer tag call (frameOf changeStores handed .done) refl (silence m room (replyOf handed)) (refl, refl) refl)
 
 -- the rows before a transfer's own
 module _ (v : Session) (m : List ℕ) where
   tag-of : Tag
   tag-of = record { session = v; image = m }
 
-  read-tabled : (at count : ℕ) (room : List ℕ) → Tabled tag-of (read at count room) (readOf v m at count room)
+  read-tabled : (at count : ℕ) (room : List ℕ) → Tabled tag-of (read at count room) (firstOf (readOf v m at count room))
   unfolding readOf wordsBits tag-of
   read-tabled at count room =
       let c = read at count room in
-      first-each (Tabled tag-of c) (readRows v m at count room) (shown v m at count room)
+      first-each (Tabled tag-of c) (readOf v m at count room .rows) (readOf v m at count room .done)
       (λ e. refusal tag-of c 1 refl, (λ e. refusal tag-of c 2 refl, (λ e. refusal tag-of c 3 refl, (λ e. refusal tag-of c 5 refl, (λ e. refusal tag-of c 6 refl, (λ e. refusal tag-of c 13 refl, (λ e. refusal tag-of c 4 refl, tt)))))))
       (zero-answer tag-of c _ refl (λ q. no-words (isKilled (liveOf (v .power) .state)) count (omega (arith, q))) (refl, refl) refl)
     where
@@ -226,59 +217,59 @@ module _ (v : Session) (m : List ℕ) where
           none true = packed-none room
           none false = packed-none room
 
-  write-tabled : (at : ℕ) (d : List ℕ) (s : ℕ) → Tabled tag-of (write at d s) (writeOf v m at d s)
+  write-tabled : (at : ℕ) (d : List ℕ) (s : ℕ) → Tabled tag-of (write at d s) (firstOf (writeOf changeStores v m at d s))
   unfolding writeOf tag-of
   write-tabled at d s =
       let c = write at d s in
-      first-each (Tabled tag-of c) (writeRows v m at d s) (written v m at d)
+      first-each (Tabled tag-of c) (writeOf changeStores v m at d s .rows) (writeOf changeStores v m at d s .done)
       (λ e. refusal tag-of c 1 refl, (λ e. refusal tag-of c 2 refl, (λ e. refusal tag-of c 3 refl, (λ e. refusal tag-of c 5 refl, (λ e. refusal tag-of c 6 refl, (λ e. refusal tag-of c 13 refl, (λ e. lost-answer tag-of c (ltb-true _ _ e), tt)))))))
       (zero-answer tag-of c _ refl (λ q. refl) (refl, refl) refl)
 
 -- calls without an image, and power-up
 module _ (t : Tag) where
-  admit-tabled : (n : ℕ) → Tabled t (admit n) (admitOf (t .session) n)
+  admit-tabled : (n : ℕ) → Tabled t (admit n) (firstOf (admitOf (t .session) n))
   unfolding admitOf
   admit-tabled n =
       let c = admit n in
-      first-each (Tabled t c) (admitRows (t .session)) (admitted (t .session) n)
+      first-each (Tabled t c) (admitOf (t .session) n .rows) (admitOf (t .session) n .done)
       (λ e. refusal t c 5 refl, (λ e. refusal t c 6 refl, (λ e. refusal t c 9 refl, tt))) (zero-answer t c _ refl (λ q. refl) (refl, refl) refl)
 
-  ask-tabled : Tabled t ask (askOf (t .session))
+  ask-tabled : Tabled t ask (firstOf (askOf (t .session)))
   unfolding askOf
   ask-tabled =
-      first-each (Tabled t ask) (askRows (t .session)) (granted (t .session))
+      first-each (Tabled t ask) (askOf (t .session) .rows) (askOf (t .session) .done)
       (λ e. refusal t ask 5 refl, (λ e. refusal t ask 6 refl, tt)) (zero-answer t ask _ refl (λ q. refl) (refl, refl) refl)
 
-  release-tabled : Tabled t release (releaseOf (t .session))
+  release-tabled : Tabled t release (firstOf (releaseOf (t .session)))
   unfolding releaseOf
   release-tabled =
-      first-each (Tabled t release) (holderRows (t .session)) (released (t .session))
+      first-each (Tabled t release) (releaseOf (t .session) .rows) (releaseOf (t .session) .done)
       (λ e. refusal t release 5 refl, (λ e. refusal t release 6 refl, tt)) (zero-answer t release _ refl (λ q. refl) (refl, refl) refl)
 
-  register-tabled : Tabled t register (registerOf (t .session))
+  register-tabled : Tabled t register (firstOf (registerOf (t .session)))
   unfolding registerOf
   register-tabled =
-      first-each (Tabled t register) (holderRows (t .session)) (told (liveOf (t .session .power)))
+      first-each (Tabled t register) (registerOf (t .session) .rows) (registerOf (t .session) .done)
       (λ e. refusal t register 5 refl, (λ e. refusal t register 6 refl, tt)) (zero-answer t register _ refl (λ q. refl) (refl, refl) refl)
 
-  power-tabled : (s : ℕ) → Tabled t (powerUp s) (powerUpOf (t .image) s)
+  power-tabled : (s : ℕ) → Tabled t (powerUp s) (firstOf (powerUpOf (t .image) s))
   unfolding powerUpOf
   power-tabled s =
       let c = powerUp s in
-      first-each (Tabled t c) (powerRows (t .image) s) (powered (t .image))
+      first-each (Tabled t c) (powerUpOf (t .image) s .rows) (powerUpOf (t .image) s .done)
       (λ e. refusal t c 1 refl, (λ e. refusal t c 2 refl, (λ e. refusal t c 3 refl, (λ e. lost-answer t c (ltb-true _ _ e), tt)))) (zero-answer t c _ refl (λ q. refl) (refl, refl) refl)
 
--- each call's answer is its first row that holds; the numbers of its rows, and of what is left where none holds
-by-rows : (t : Tag) (c : Call) → (answerOf t c ≡ first (rowsIn t c) (doneIn t c)) × (numbersOf (rowsIn t c) ≡ orderOf c) × (doneIn t c .number ≡ 0)
+-- the numbers of a call's rows, and of what is left where none holds
+by-rows : (t : Tag) (c : Call) → (numbersOf (answersIn t c .rows) ≡ orderIn c) × (answersIn t c .done .number ≡ 0)
 unfolding powerUpOf admitOf frameOf askOf releaseOf registerOf readOf writeOf
-by-rows t (powerUp s) = (refl, refl, refl)
-by-rows t (admit n) = (refl, refl, refl)
-by-rows t (frame f bits fresh room s) = (refl, refl, refl)
-by-rows t ask = (refl, refl, refl)
-by-rows t release = (refl, refl, refl)
-by-rows t register = (refl, refl, refl)
-by-rows t (read at count room) = (refl, refl, refl)
-by-rows t (write at d s) = (refl, refl, refl)
+by-rows t (powerUp s) = (refl, refl)
+by-rows t (admit n) = (refl, refl)
+by-rows t (frame f bits fresh room s) = (refl, refl)
+by-rows t ask = (refl, refl)
+by-rows t release = (refl, refl)
+by-rows t register = (refl, refl)
+by-rows t (read at count room) = (refl, refl)
+by-rows t (write at d s) = (refl, refl)
 
 first-under : (rs : Rows) (last : Result) → Under rs last (first rs last)
 first-under [] last = refl
@@ -291,9 +282,9 @@ first-under (r ∷ rs) last = go (r .1) refl (first-under rs last)
 exact : (t : Tag) (c : Call) → Exact answerOf t c
 exact t c =
     record {
-      order = by-rows t c .1;
-      zero = by-rows t c .2;
-      under = subst (Under (rowsIn t c) (doneIn t c)) (sym (by-rows t c .0)) (first-under (rowsIn t c) (doneIn t c));
+      order = by-rows t c .0;
+      zero = by-rows t c .1;
+      under = first-under (answersIn t c .rows) (answersIn t c .done);
     }
 
 tabled : (t : Tag) (c : Call) → Tabled t c (answerOf t c)

@@ -18,11 +18,12 @@ use Rattle.stores.specs.Stores.{changeStores}
 use Rattle.stores.specs.Cuts.{Cut, withByte, reaches}
 use Rattle.tag.specs.declared.Session.{Session}
 use Rattle.tag.specs.Power.{powerUpOf}
-use Rattle.demands.specs.Calls.{Call, Tag, answerOf, imageAfter, more, torn, Turn, run}
+use Rattle.demands.specs.Calls.{Call, Tag, answerOf, imageAfter, more, torn, Turn, runImage}
 use Rattle.demands.specs.Demands.{Storing, lasting, powerUps, wholePowerUps, Unbroken, Demand3, WholeWords, Kept, AnyRun, wholeRun, WholeRuns}
 use Rattle.demands.proofs.Rows.{Refused, Acting, wordsOf, acts, words-lasting}
 use Rattle.demands.proofs.Cuts.{torn-lasting, needs, demand-3}
 use Rattle.demands.proofs.Runs.{any-run}
+use Rattle.tag.specs.Result.{firstOf}
 
 -- a byte past the end
 past : (n m : List ℕ) → withByte (length m) n m ≡ m
@@ -31,14 +32,14 @@ past n m = set-out m (length m) (getD n (length m) 0) (omega arith)
 -- power-ups that are cut at whole words
 wholes : List ℕ → List ℕ → List Cut
 wholes [] m = []
-wholes (k ∷ ks) m = let n = powerUpOf m k .image in record { whole = k; byte = length n } ∷ wholes ks n
+wholes (k ∷ ks) m = let n = firstOf (powerUpOf m k) .image in record { whole = k; byte = length n } ∷ wholes ks n
 
 wholes-same : (ks m : List ℕ) → powerUps answerOf (wholes ks m) m ≡ wholePowerUps answerOf ks m
 unfolding wholes
 wholes-same [] m = refl
 wholes-same (k ∷ ks) m =
-    let n = powerUpOf m k .image in
-    ap (powerUps answerOf (wholes ks n)) (past (powerUpOf m (suc k) .image) n) ∙ wholes-same ks n
+    let n = firstOf (powerUpOf m k) .image in
+    ap (powerUps answerOf (wholes ks n)) (past (firstOf (powerUpOf m (suc k)) .image) n) ∙ wholes-same ks n
 
 -- with the power for s stores, and no byte of the next
 module _ (y : Layout) (t : Tag) (c : Storing) (s : ℕ) where
@@ -90,13 +91,13 @@ turns m (c ∷ cs) =
     let n = imageAfter answerOf (record { session = c .0; image = m }) (c .1) in
     record { session = c .0; call = c .1; byte = length n } ∷ turns n cs
 
-turns-same : (m : List ℕ) (cs : List (Session × Call)) → run answerOf m (turns m cs) ≡ wholeRun answerOf m cs
+turns-same : (m : List ℕ) (cs : List (Session × Call)) → runImage answerOf m (turns m cs) ≡ wholeRun answerOf m cs
 unfolding turns
 turns-same m [] = refl
 turns-same m (c ∷ cs) =
     let t : Tag = record { session = c .0; image = m } in
     let n = imageAfter answerOf t (c .1) in
-    ap (λ (x : List ℕ). run answerOf x (turns n cs)) (past (imageAfter answerOf t (more (c .1))) n) ∙ turns-same n cs
+    ap (λ (x : List ℕ). runImage answerOf x (turns n cs)) (past (imageAfter answerOf t (more (c .1))) n) ∙ turns-same n cs
 
 turns-append : (m : List ℕ) (cs ds : List (Session × Call)) → turns m (cs ++ ds) ≡ turns m cs ++ turns (wholeRun answerOf m cs) ds
 unfolding turns
@@ -106,7 +107,7 @@ turns-append m (c ∷ cs) ds = rw (turns-append (imageAfter answerOf (record { s
 pub whole-runs : AnyRun answerOf → WholeRuns answerOf
 whole-runs a y m before later bytes idle =
     subst (λ (n : List ℕ). Kept y n (wholeRun answerOf m (before ++ later))) (turns-same m before)
-    (subst (Kept y (run answerOf m (turns m before))) (ap (run answerOf m) (sym (turns-append m before later)) ∙ turns-same m (before ++ later))
+    (subst (Kept y (runImage answerOf m (turns m before))) (ap (runImage answerOf m) (sym (turns-append m before later)) ∙ turns-same m (before ++ later))
     (a y m (turns m before) (turns (wholeRun answerOf m before) later) bytes idle))
 
 -- both, of the tag

@@ -1,7 +1,6 @@
 -- The public operations as calls of one tag, and what their promises say of each (RULES 5 and 7.1). Assumes nothing.
 use Prim.Native.Nat.{ℕ, suc}
 use mathlib.Core.Path.{_≡_}
-use mathlib.Core.Bool.{Bool}
 use mathlib.Core.List.{List, [], _∷_}
 use Rattle.bits.specs.Words.{Store}
 use Rattle.image.specs.declared.Layout.{Layout}
@@ -15,14 +14,15 @@ use Rattle.stores.specs.Cuts.{withByte}
 use Rattle.tag.specs.declared.Session.{Session}
 use Rattle.tag.specs.declared.Outcome.{Outcome}
 use Rattle.tag.specs.Session.{offSession}
-use Rattle.tag.specs.Result.{Result, result}
+use Rattle.tag.specs.Result.{Result, result, firstOf, Answers}
 use Rattle.states.specs.Commands.{isKilled}
-use Rattle.tag.specs.Power.{powerRows, powered, powerUpOf}
-use Rattle.tag.specs.Table.{input, liveOf, effect, rows, obeyed, frameOf, admitRows, admitted, admitOf}
-use Rattle.tag.specs.Port.{askRows, granted, askOf, holderRows, released, releaseOf, numberIn, told, registerOf, readRows, shown, readOf, portWords, writeRows, written, writeOf}
+use Rattle.tag.specs.Power.{powerUpOf}
+use Rattle.tag.specs.Table.{liveOf, effect, frameOf, admitOf}
+use Rattle.tag.specs.Port.{askOf, releaseOf, numberIn, registerOf, readOf, portWords, writeOf}
+use Rattle.tag.specs.Steps.{input}
 
--- what a caller hands over beside the session and the image: a power-up's s; an admission's number; a frame's bytes, bit count, fresh word, room and s;
--- a read's first word, count and room; a write's first word, data and s
+-- what a caller hands over beside the session and the image: a power-up's s; an admission's number; a frame's bytes, bit count, fresh
+-- word, room and s; a read's first word, count and room; a write's first word, data and s
 pub data Call : Type 0 where
   powerUp : ℕ → Call
   admit : ℕ → Call
@@ -49,22 +49,27 @@ tagOf s m = record { session = s; image = m }
 abbrev pub asked : Program → Session → List ℕ → Call → Result
 asked A s m c = A (tagOf s m) c
 
+-- the table of each operation: its rows, each what it leaves and when, and what is left where none holds
+abbrev pub answersIn : Tag → Call → Answers
+answersIn t (powerUp s) = powerUpOf (t .image) s
+answersIn t (admit n) = admitOf (t .session) n
+answersIn t (frame f bits fresh room s) = frameOf changeStores (input (t .session) (t .image) f bits fresh room s)
+answersIn t ask = askOf (t .session)
+answersIn t release = releaseOf (t .session)
+answersIn t register = registerOf (t .session)
+answersIn t (read at count room) = readOf (t .session) (t .image) at count room
+answersIn t (write at d s) = writeOf changeStores (t .session) (t .image) at d s
+
 -- what each operation's promise has on its right side: the tag's own answers
 abbrev pub answerOf : Program
-answerOf t (powerUp s) = powerUpOf (t .image) s
-answerOf t (admit n) = admitOf (t .session) n
-answerOf t (frame f bits fresh room s) = frameOf (input (t .session) (t .image) f bits fresh room s)
-answerOf t ask = askOf (t .session)
-answerOf t release = releaseOf (t .session)
-answerOf t register = registerOf (t .session)
-answerOf t (read at count room) = readOf (t .session) (t .image) at count room
-answerOf t (write at d s) = writeOf (t .session) (t .image) at d s
+answerOf t c = firstOf (answersIn t c)
 
--- an operation's outcome, image and room are what the program answers; of the tag's own answers, they meet its promise
+-- an outcome with the image and the room afterwards is the program's answer; of the tag's own answers, that is the operation's promise
 abbrev pub Meets : Program → Tag → Call → Outcome → List ℕ → List ℕ → Type 0
 Meets A t c o image room = result o image room ≡ A t c
 
--- what a call was handed: the session (power-up asks for none), the image and the room ([] where it has none) and s (0 where it stores nothing)
+-- what a call was handed: the session (power-up asks for none), the image and the room ([] where it has none) and s (0 where it stores
+-- nothing)
 abbrev pub sessionIn : Tag → Call → Session
 sessionIn t (powerUp s) = offSession
 sessionIn t (admit n) = t .session
@@ -105,7 +110,7 @@ powerIn register = 0
 powerIn (read at count room) = 0
 powerIn (write at d s) = s
 
--- the words that it changes where nothing refuses it; and the stores that it makes where the power lasts
+-- the words that a frame or an SPI write changes where nothing refuses it; and the stores that a call makes where the power lasts
 abbrev pub wordsIn : Tag → Call → List Store
 wordsIn t (powerUp s) = []
 wordsIn t (admit n) = []
@@ -148,27 +153,6 @@ valueIn t register = numberIn (liveOf (t .session .power) .register)
 valueIn t (read at count room) = 0
 valueIn t (write at d s) = 0
 
--- the table's rows for a call, each what it leaves and when; and what is left where none holds
-abbrev pub rowsIn : Tag → Call → List (Result × Bool)
-rowsIn t (powerUp s) = powerRows (t .image) s
-rowsIn t (admit n) = admitRows (t .session)
-rowsIn t (frame f bits fresh room s) = rows (input (t .session) (t .image) f bits fresh room s)
-rowsIn t ask = askRows (t .session)
-rowsIn t release = holderRows (t .session)
-rowsIn t register = holderRows (t .session)
-rowsIn t (read at count room) = readRows (t .session) (t .image) at count room
-rowsIn t (write at d s) = writeRows (t .session) (t .image) at d s
-
-abbrev pub doneIn : Tag → Call → Result
-doneIn t (powerUp s) = powered (t .image)
-doneIn t (admit n) = admitted (t .session) n
-doneIn t (frame f bits fresh room s) = obeyed (input (t .session) (t .image) f bits fresh room s)
-doneIn t ask = granted (t .session)
-doneIn t release = released (t .session)
-doneIn t register = told (liveOf (t .session .power))
-doneIn t (read at count room) = shown (t .session) (t .image) at count room
-doneIn t (write at d s) = written (t .session) (t .image) at d
-
 -- the image after a call: it stays where the call has none
 abbrev pub imageAfter : Program → Tag → Call → List ℕ
 imageAfter A t (powerUp s) = A t (powerUp s) .image
@@ -201,9 +185,9 @@ pub record Turn : Type 0 where
   pub call : Call
   pub byte : ℕ
 
-abbrev pub run : Program → List ℕ → List Turn → List ℕ
-run A m [] = m
-run A m (c ∷ cs) = run A (torn A (record { session = c .session; image = m }) (c .call) (c .byte)) cs
+abbrev pub runImage : Program → List ℕ → List Turn → List ℕ
+runImage A m [] = m
+runImage A m (c ∷ cs) = runImage A (torn A (record { session = c .session; image = m }) (c .call) (c .byte)) cs
 
 -- a good image of the layout y with nothing pending
 pub record Idle (y : Layout) (m : List ℕ) : Type 0 where

@@ -17,9 +17,9 @@ use Rattle.frames.specs.Frames.{heardOf, checksumRight}
 use Rattle.replies.specs.Pack.{filled, packed}
 use Rattle.replies.specs.Replies.{checked}
 use Rattle.rights.specs.Rights.{writeCode, lockedTo, lockCode}
-use Rattle.stores.specs.Stores.{powerStores}
+use Rattle.stores.specs.Stores.{powerStores, changeStores}
 use Rattle.states.specs.declared.State.the-variants as state
-use Rattle.tag.specs.Result.{Result}
+use Rattle.tag.specs.Result.{Result, firstOf}
 use Rattle.tag.specs.Power.{powerUpOf}
 use Rattle.tag.specs.Table.{liveOf, frameOf}
 use Rattle.tag.specs.Port.{numberIn, writeOf}
@@ -52,7 +52,7 @@ flat [] = []
 flat (s ∷ ss) = s .at ∷ s .value ∷ flat ss
 
 abbrev pub outside : List ℕ → List ℕ
-outside m = take 90 (powerUpOf m 257 .image)
+outside m = take 90 (firstOf (powerUpOf m 257) .image)
 
 -- the words outside WORK of the worked image with v in USER 3: header, STATUS, RESERVED, EPC, TID, USER, PERMA
 abbrev user3 : ℕ → List ℕ
@@ -75,7 +75,7 @@ abbrev p11 : Result
 p11 = sent locked lock11 60 5
 
 abbrev p12 : Result
-p12 = writeOf (holding state.Arbitrate false false) blockLocked 2 fourWords 8
+p12 = firstOf (writeOf changeStores (holding state.Arbitrate false false) blockLocked 2 fourWords 8)
 
 pub table : List Case
 table =

@@ -1,5 +1,6 @@
--- DEMAND 2 of any program A, command by command: for a good image with nothing pending, a session that the command is for, room and power enough: the reply's bits,
--- the session and the words stored (RULES D2, 3.9 to 3.22 and 4). Its proof: `demand-2` in proofs/Commands. Assumes nothing.
+-- DEMAND 2 of any program A, command by command: for a good image with nothing pending, a session that the command is for, room and power
+-- enough: the reply's bits, the session and the words stored (RULES D2, 3.9 to 3.22 and 4). Its proof: `demand-2` in proofs/Commands.
+-- Assumes nothing.
 use Prim.Native.Nat.{ℕ, _+_, _-_, _*_, _≤_, _<_}
 use mathlib.Core.Path.{_≡_}
 use mathlib.Core.Logic.{_≢_, _⊎_}
@@ -19,7 +20,7 @@ use Rattle.image.specs.Check.{checkOf, good}
 use Rattle.frames.specs.declared.Order.{Order}
 use Rattle.frames.specs.declared.Order.the-variants as order
 use Rattle.frames.specs.Message as heard
-use Rattle.frames.specs.Frames.{span, heardOf, checksumRight}
+use Rattle.frames.specs.Frames.{span, heardOf}
 use Rattle.replies.specs.declared.Reply.{Reply}
 use Rattle.replies.specs.declared.Reply.the-variants as reply
 use Rattle.replies.specs.Replies.{replyBits}
@@ -35,16 +36,15 @@ use Rattle.tag.specs.declared.Register.{Register}
 use Rattle.states.specs.declared.State.{State}
 use Rattle.states.specs.declared.State.the-variants as state
 use Rattle.tag.specs.declared.Session.{Session}
-use Rattle.tag.specs.Session.{offSession, on, clear}
-use Rattle.tag.specs.Result.{Result, leaves, gives}
-use Rattle.states.specs.Commands.{accessWord, killWord}
-use Rattle.tag.specs.Power.{poweredTo}
-use Rattle.tag.specs.Table.{answered}
+use Rattle.tag.specs.Session.{on, clear}
+use Rattle.tag.specs.Result.{Result, leaves}
+use Rattle.states.specs.Commands.{plainLink, accessWord, killWord}
 use Rattle.tag.specs.Port.{numberIn}
 use Rattle.demands.specs.Terms.{Terms}
 use Rattle.demands.specs.Facts.{Readable, Writable, Lockable, PermaLockable, PortWrites, Tells, marked}
 use Rattle.demands.specs.Calls.{powerUp, frame, Program, asked, Idle}
 use Rattle.demands.specs.Calls as call
+use Rattle.tag.specs.Steps.{gives}
 
 -- what a frame call is handed beside the session: image, frame, bit count, fresh word, room and power
 pub record Air : Type 0 where
@@ -62,47 +62,39 @@ linked secured k = cond secured (state.Secured k) (state.Open k)
 abbrev pub link : ℕ → Cover → Half → Link
 link h c p = record { handle = h; cover = c; half = p }
 
--- no cover number and no half waiting
-abbrev pub alone : ℕ → Link
-alone h = link h cover.Nothing half.Nothing
-
--- answer 0: the state st, the reply rp and the words ws
-abbrev pub done : Layout → Air → Register → State → Reply → List Store → Result
-done y a r st rp ws =
-    let stores = changeStores (y .work .at) ws in
-    record {
-      number = 0;
-      session = on st false r;
-      reply = length (replyBits (a .image) rp);
-      stores = length stores;
-      value = 0;
-      image = after (a .image) stores;
-      room = packed (replyBits (a .image) rp) (a .room);
-    }
-
--- what the program A answers to the frame of a
-abbrev pub hears : Program → Air → Session → Result
-hears A a s = asked A s (a .image) (frame (a .frame) (a .bits) (a .fresh) (a .room) (a .power))
-
--- room and power enough for the reply and the words
-abbrev pub Enough : Layout → Air → Reply → List Store → Type 0
-Enough y a rp ws = (length (replyBits (a .image) rp) ≤ 8 * length (a .room)) × (length (changeStores (y .work .at) ws) ≤ a .power)
-
--- the frame is the order o with the number n, and its CRC-16 is right
-pub record Says (a : Air) (n : ℕ) (o : Order) : Type 0 where
-  pub heard : heardOf (a .frame) (a .bits) ≡ heard.said (record { number = n; order = o })
-  pub right : checksumRight (a .frame) (a .bits) ≡ true
-
 -- what a command comes to: a state, a reply and the words stored
 pub record End : Type 0 where
   pub state : State
   pub reply : Reply
   pub words : List Store
 
--- the order o with the number n, to a tag in the state st, comes to e
-abbrev pub Does : Program → Layout → Air → Register → ℕ → Order → State → End → Type 0
-Does A y a r n o st e =
-    Says a n o → Enough y a (e .reply) (e .words) → hears A a (on st false r) ≡ done y a r (e .state) (e .reply) (e .words)
+-- answer 0: what it comes to, done
+abbrev pub obeyed : Layout → Air → Register → End → Result
+obeyed y a r e =
+    let stores = changeStores (y .work .at) (e .words) in
+    let bits = replyBits (a .image) (e .reply) in
+    record {
+      number = 0;
+      session = on (e .state) false r;
+      reply = length bits;
+      stores = length stores;
+      value = 0;
+      image = after (a .image) stores;
+      room = packed bits (a .room);
+    }
+
+-- what the program A answers to the frame of a
+abbrev pub answersTo : Program → Air → Session → Result
+answersTo A a s = asked A s (a .image) (frame (a .frame) (a .bits) (a .fresh) (a .room) (a .power))
+
+-- room and power enough for the reply and the words
+abbrev pub Enough : Layout → Air → End → Type 0
+Enough y a e = (length (replyBits (a .image) (e .reply)) ≤ 8 * length (a .room))
+    × (length (changeStores (y .work .at) (e .words)) ≤ a .power)
+
+-- the frame is the order o with the number n
+abbrev pub Says : Air → ℕ → Order → Type 0
+Says a n o = heardOf (a .frame) (a .bits) ≡ heard.said (record { number = n; order = o })
 
 -- of a frame's words from bit `at` on, for a bank's words from p on, the one for word 1
 abbrev pub pcSent : Air → ℕ → ℕ → ℕ
@@ -112,105 +104,110 @@ pcSent a at p = fieldAt (a .frame) (at + 16 * (1 - p)) 16
 abbrev pub wordsTo : ℕ → List ℕ → ℕ → ℕ → List Store
 wordsTo o f p n = below (λ j. store (o + j) (fieldAt f (p + 16 * j) 16)) n
 
-pub record Radio (A : Program) (y : Layout) (a : Air) (r : Register) : Type 0 where
-  -- Req_RN with the admission number: the fresh word is the handle, the state Open if the access password is nonzero, else Secured
-  pub req-rn : (n : ℕ) → accessWord y (a .image) 0 ≡ 0 → accessWord y (a .image) 1 ≡ 0
-      → Does A y a r n order.ReqRn (state.Acknowledged n)
-      (record { state = state.Secured (alone (a .fresh)); reply = reply.Number (a .fresh); words = [] })
-  pub req-rn-open : (n : ℕ) → (accessWord y (a .image) 0 ≢ 0) ⊎ (accessWord y (a .image) 1 ≢ 0)
-      → Does A y a r n order.ReqRn (state.Acknowledged n)
-      (record { state = state.Open (alone (a .fresh)); reply = reply.Number (a .fresh); words = [] })
-  -- Req_RN with the handle: the fresh word is the cover number
-  pub req-rn-cover : (secured : Bool) (h : ℕ) (c : Cover) (p : Half)
-      → Does A y a r h order.ReqRn (linked secured (link h c p))
-      (record {
-        state = linked secured (link h (cover.Number (a .fresh)) p);
-        reply = reply.Number (a .fresh);
-        words = [];
-      })
-  -- Read: k words, where nothing is against it: those that it asks for, or with WordCount 0 all to the bank's end
-  pub read : (secured : Bool) (h : ℕ) (c : Cover) (b p n k : ℕ) → Readable y (a .image) secured b p n
-      → ((1 ≤ n) × (k ≡ n)) ⊎ ((n ≡ 0) × (p + k ≡ bankOf y b .words))
-      → Does A y a r h (order.Read (span b p n)) (linked secured (link h c half.Nothing))
-      (record { state = linked secured (alone h); reply = reply.Words (bankOf y b .at + p) k h; words = [] })
-  -- Write: the word without its cover, which is used up
-  pub write : (secured : Bool) (h c : ℕ) (b p w : ℕ) → Writable y (a .image) secured b p 1 (bitXor w c)
-      → Does A y a r h (order.Write (span b p 1) w) (linked secured (link h (cover.Number c) half.Nothing))
-      (record {
-        state = linked secured (alone h);
-        reply = reply.Success h;
-        words = store (bankOf y b .at + p) (bitXor w c) ∷ [];
-      })
-  -- Kill, the first half: it waits, uncovered, where the kill password is nonzero
-  pub kill-first : (secured : Bool) (h c w : ℕ) → (killWord y (a .image) 0 ≢ 0) ⊎ (killWord y (a .image) 1 ≢ 0)
-      → Does A y a r h (order.Kill w) (linked secured (link h (cover.Number c) half.Nothing))
-      (record {
-        state = linked secured (link h cover.Nothing (half.Kill (bitXor w c)));
-        reply = reply.Number h;
-        words = [];
-      })
-  -- Kill, the second: where both are the password's, killed is stored as 1
-  pub kill-second : (secured : Bool) (h c w up : ℕ) → up ≡ killWord y (a .image) 0 → bitXor w c ≡ killWord y (a .image) 1
-      → Does A y a r h (order.Kill w) (linked secured (link h (cover.Number c) (half.Kill up)))
-      (record { state = state.Killed; reply = reply.Success h; words = store (y .status .at + 1) 1 ∷ [] })
-  -- Lock, in Secured: the masked bits of the lock word are the action's
-  pub lock : (h : ℕ) (c : Cover) (mask action : ℕ) → Lockable y (a .image) mask action
-      → Does A y a r h (order.Lock mask action) (state.Secured (link h c half.Nothing))
-      (record {
-        state = state.Secured (alone h);
-        reply = reply.Success h;
-        words = store (y .status .at) (lockedTo (lockWord y (a .image)) mask action) ∷ [];
-      })
-  -- Access, the first half, and the second where both are the password's
-  pub access-first : (secured : Bool) (h c w : ℕ)
-      → Does A y a r h (order.Access w) (linked secured (link h (cover.Number c) half.Nothing))
-      (record {
-        state = linked secured (link h cover.Nothing (half.Access (bitXor w c)));
-        reply = reply.Number h;
-        words = [];
-      })
-  pub access-second : (secured : Bool) (h c w up : ℕ) → up ≡ accessWord y (a .image) 0 → bitXor w c ≡ accessWord y (a .image) 1
-      → Does A y a r h (order.Access w) (linked secured (link h (cover.Number c) (half.Access up)))
-      (record { state = state.Secured (alone h); reply = reply.Number h; words = [] })
-  -- BlockWrite: the words of the frame
-  pub block-write : (secured : Bool) (h : ℕ) (c : Cover) (b p n at : ℕ) → 1 ≤ n
-      → Writable y (a .image) secured b p n (pcSent a at p)
-      → Does A y a r h (order.BlockWrite (span b p n) at) (linked secured (link h c half.Nothing))
-      (record {
-        state = linked secured (alone h);
-        reply = reply.Success h;
-        words = wordsTo (bankOf y b .at + p) (a .frame) at n;
-      })
-  -- BlockErase: zeros
-  pub block-erase : (secured : Bool) (h : ℕ) (c : Cover) (b p n : ℕ) → 1 ≤ n → Writable y (a .image) secured b p n 0
-      → Does A y a r h (order.BlockErase (span b p n)) (linked secured (link h c half.Nothing))
-      (record {
-        state = linked secured (alone h);
-        reply = reply.Success h;
-        words = below (λ j. store (bankOf y b .at + p + j) 0) n;
-      })
-  -- BlockPermalock that reads: PERMA words
-  pub permalock-read : (h : ℕ) (c : Cover) (p n : ℕ) → 1 ≤ n → p + n ≤ y .perma .words
-      → Does A y a r h (order.ReadPermalock 0 (span 3 p n)) (state.Secured (link h c half.Nothing))
-      (record { state = state.Secured (alone h); reply = reply.Words (y .perma .at + p) n h; words = [] })
-  -- and one that locks: masked bits are added
-  pub permalock : (h : ℕ) (c : Cover) (p n at : ℕ) → 1 ≤ n → PermaLockable y (a .image) p n (a .frame) at
-      → Does A y a r h (order.Permalock 0 (span 3 p n) at) (state.Secured (link h c half.Nothing))
-      (record {
-        state = state.Secured (alone h);
-        reply = reply.Success h;
-        words = below (λ j. let i = y .perma .at + p + j in store i (bitOr (wordAt (a .image) i) (fieldAt (a .frame) (at + 16 * j) 16))) n;
-      })
-  -- NAK: Arbitrate, and no reply
-  pub nak : (st : State) → st ≢ state.Killed → heardOf (a .frame) (a .bits) ≡ heard.nak
-      → hears A a (on st false r) ≡ done y a r state.Arbitrate reply.Silence []
+module _ (A : Program) (y : Layout) (a : Air) (r : Register) where
+  -- the order o with the number n, to a tag in the state st, comes to e
+  abbrev pub Does : ℕ → Order → State → End → Type 0
+  Does n o st e = Says a n o → Enough y a e → answersTo A a (on st false r) ≡ obeyed y a r e
 
--- calls without an image, of a tag with any: the gate's admission in Arbitrate with the port free; the port asked for outside Open and Secured, given back, and
--- its register as a number, cleared
+  pub record Radio : Type 0 where
+    -- Req_RN with the admission number: the fresh word is the handle, the state Open if the access password is nonzero, else Secured
+    pub req-rn : (n : ℕ) → accessWord y (a .image) 0 ≡ 0 → accessWord y (a .image) 1 ≡ 0
+        → Does n order.ReqRn (state.Acknowledged n)
+        (record { state = state.Secured (plainLink (a .fresh)); reply = reply.Number (a .fresh); words = [] })
+    pub req-rn-open : (n : ℕ) → (accessWord y (a .image) 0 ≢ 0) ⊎ (accessWord y (a .image) 1 ≢ 0)
+        → Does n order.ReqRn (state.Acknowledged n)
+        (record { state = state.Open (plainLink (a .fresh)); reply = reply.Number (a .fresh); words = [] })
+    -- Req_RN with the handle: the fresh word is the cover number
+    pub req-rn-cover : (secured : Bool) (h : ℕ) (c : Cover) (p : Half)
+        → Does h order.ReqRn (linked secured (link h c p))
+        (record {
+          state = linked secured (link h (cover.Number (a .fresh)) p);
+          reply = reply.Number (a .fresh);
+          words = [];
+        })
+    -- Read: k words, where nothing is against it: those that it asks for, or with WordCount 0 all to the bank's end
+    pub read : (secured : Bool) (h : ℕ) (c : Cover) (b p n k : ℕ) → Readable y (a .image) secured b p n
+        → ((1 ≤ n) × (k ≡ n)) ⊎ ((n ≡ 0) × (p + k ≡ bankOf y b .words))
+        → Does h (order.Read (span b p n)) (linked secured (link h c half.Nothing))
+        (record { state = linked secured (plainLink h); reply = reply.Words (bankOf y b .at + p) k h; words = [] })
+    -- Write: the word without its cover, which is used up
+    pub write : (secured : Bool) (h c : ℕ) (b p w : ℕ) → Writable y (a .image) secured b p 1 (bitXor w c)
+        → Does h (order.Write (span b p 1) w) (linked secured (link h (cover.Number c) half.Nothing))
+        (record {
+          state = linked secured (plainLink h);
+          reply = reply.Success h;
+          words = store (bankOf y b .at + p) (bitXor w c) ∷ [];
+        })
+    -- Kill, the first half: it waits, uncovered, where the kill password is nonzero
+    pub kill-first : (secured : Bool) (h c w : ℕ) → (killWord y (a .image) 0 ≢ 0) ⊎ (killWord y (a .image) 1 ≢ 0)
+        → Does h (order.Kill w) (linked secured (link h (cover.Number c) half.Nothing))
+        (record {
+          state = linked secured (link h cover.Nothing (half.Kill (bitXor w c)));
+          reply = reply.Number h;
+          words = [];
+        })
+    -- Kill, the second: where both are the password's, killed is stored as 1
+    pub kill-second : (secured : Bool) (h c w up : ℕ) → up ≡ killWord y (a .image) 0 → bitXor w c ≡ killWord y (a .image) 1
+        → Does h (order.Kill w) (linked secured (link h (cover.Number c) (half.Kill up)))
+        (record { state = state.Killed; reply = reply.Success h; words = store (y .status .at + 1) 1 ∷ [] })
+    -- Lock, in Secured: the masked bits of the lock word are the action's
+    pub lock : (h : ℕ) (c : Cover) (mask action : ℕ) → Lockable y (a .image) mask action
+        → Does h (order.Lock mask action) (state.Secured (link h c half.Nothing))
+        (record {
+          state = state.Secured (plainLink h);
+          reply = reply.Success h;
+          words = store (y .status .at) (lockedTo (lockWord y (a .image)) mask action) ∷ [];
+        })
+    -- Access, the first half, and the second where both are the password's
+    pub access-first : (secured : Bool) (h c w : ℕ)
+        → Does h (order.Access w) (linked secured (link h (cover.Number c) half.Nothing))
+        (record {
+          state = linked secured (link h cover.Nothing (half.Access (bitXor w c)));
+          reply = reply.Number h;
+          words = [];
+        })
+    pub access-second : (secured : Bool) (h c w up : ℕ) → up ≡ accessWord y (a .image) 0 → bitXor w c ≡ accessWord y (a .image) 1
+        → Does h (order.Access w) (linked secured (link h (cover.Number c) (half.Access up)))
+        (record { state = state.Secured (plainLink h); reply = reply.Number h; words = [] })
+    -- BlockWrite: the words of the frame
+    pub block-write : (secured : Bool) (h : ℕ) (c : Cover) (b p n at : ℕ) → 1 ≤ n
+        → Writable y (a .image) secured b p n (pcSent a at p)
+        → Does h (order.BlockWrite (span b p n) at) (linked secured (link h c half.Nothing))
+        (record {
+          state = linked secured (plainLink h);
+          reply = reply.Success h;
+          words = wordsTo (bankOf y b .at + p) (a .frame) at n;
+        })
+    -- BlockErase: zeros
+    pub block-erase : (secured : Bool) (h : ℕ) (c : Cover) (b p n : ℕ) → 1 ≤ n → Writable y (a .image) secured b p n 0
+        → Does h (order.BlockErase (span b p n)) (linked secured (link h c half.Nothing))
+        (record {
+          state = linked secured (plainLink h);
+          reply = reply.Success h;
+          words = below (λ j. store (bankOf y b .at + p + j) 0) n;
+        })
+    -- BlockPermalock that reads: PERMA words
+    pub permalock-read : (h : ℕ) (c : Cover) (p n : ℕ) → 1 ≤ n → p + n ≤ y .perma .words
+        → Does h (order.ReadPermalock 0 (span 3 p n)) (state.Secured (link h c half.Nothing))
+        (record { state = state.Secured (plainLink h); reply = reply.Words (y .perma .at + p) n h; words = [] })
+    -- and one that locks: masked bits are added
+    pub permalock : (h : ℕ) (c : Cover) (p n at : ℕ) → 1 ≤ n → PermaLockable y (a .image) p n (a .frame) at
+        → Does h (order.Permalock 0 (span 3 p n) at) (state.Secured (link h c half.Nothing))
+        (record {
+          state = state.Secured (plainLink h);
+          reply = reply.Success h;
+          words = below (λ j. let i = y .perma .at + p + j in store i (bitOr (wordAt (a .image) i) (fieldAt (a .frame) (at + 16 * j) 16))) n;
+        })
+    -- NAK, which has no number: Arbitrate, and no reply
+    pub nak : (st : State) → st ≢ state.Killed
+        → Does 0 order.Nak st (record { state = state.Arbitrate; reply = reply.Silence; words = [] })
+
+-- calls without an image, of a tag with any: the gate's admission in Arbitrate with the port free; the port asked for outside Open and
+-- Secured, given back, and its register as a number, cleared
 pub record NoImage (A : Program) (m : List ℕ) (st : State) (r : Register) : Type 0 where
-  pub admit : (n : ℕ) → asked A (on state.Arbitrate false r) m (call.admit n) ≡ answered 0 (on (state.Acknowledged n) false r)
-  pub ask : ((secured : Bool) (k : Link) → st ≢ linked secured k) → asked A (on st false r) m call.ask ≡ answered 0 (on st true r)
-  pub release : asked A (on st true r) m call.release ≡ answered 0 (on st false r)
+  pub admit : (n : ℕ) → asked A (on state.Arbitrate false r) m (call.admit n) ≡ leaves 0 (on (state.Acknowledged n) false r) [] []
+  pub ask : ((secured : Bool) (k : Link) → st ≢ linked secured k) → asked A (on st false r) m call.ask ≡ leaves 0 (on st true r) [] []
+  pub release : asked A (on st true r) m call.release ≡ leaves 0 (on st false r) [] []
   pub register : asked A (on st true r) m call.register
       ≡ record { number = 0; session = on st true clear; reply = 0; stores = 0; value = numberIn r; image = []; room = [] }
 
@@ -218,14 +215,16 @@ pub record NoImage (A : Program) (m : List ℕ) (st : State) (r : Register) : Ty
 pub record Transfers (A : Program) (y : Layout) (m : List ℕ) (st : State) (r : Register) : Type 0 where
   -- the words of USER, high byte first
   pub read : (at n : ℕ) (room : List ℕ) → st ≢ state.Killed → 1 ≤ n → n ≤ 255 → at + n ≤ y .user .words → 2 * n ≤ length room
-      → asked A (on st true r) m (call.read at n room) ≡ gives 0 (on st true r) (16 * n) 0 m (packed (wordsBits m (y .user .at + at) n) room)
+      → asked A (on st true r) m (call.read at n room)
+      ≡ gives 0 (on st true r) (16 * n) 0 m (packed (wordsBits m (y .user .at + at) n) room)
   -- the writable words, as one change; bit 1 where some word wasn't written
   pub write : (at : ℕ) (d : List ℕ) (n s : ℕ) → st ≢ state.Killed → length d ≡ 2 * n
       → 1 ≤ n → n ≤ 255 → at + n ≤ y .user .words → n ≤ pairsIn y
       → (marks : ℕ → Bool) → ((j : ℕ) → j < n → Tells (marks j) (PortWrites y m (at + j)))
-      → let stores = changeStores (y .work .at) (marked marks (λ j. store (y .user .at + at + j) (wordAt d j)) n) in length stores ≤ s
-      → asked A (on st true r) m (call.write at d s)
-      ≡ gives 0 (on st true (record { unwritten = r .unwritten || not (every marks n); killed = r .killed })) 0 (length stores) (after m stores) []
+      → let stores = changeStores (y .work .at) (marked marks (λ j. store (y .user .at + at + j) (wordAt d j)) n) in
+      let register : Register = record { unwritten = r .unwritten || not (every marks n); killed = r .killed } in
+      length stores ≤ s
+      → asked A (on st true r) m (call.write at d s) ≡ gives 0 (on st true register) 0 (length stores) (after m stores) []
   -- when Killed: zeros, and nothing stored; bit 0 is set
   pub read-killed : (at n : ℕ) (room : List ℕ) → st ≡ state.Killed → 1 ≤ n → n ≤ 255 → at + n ≤ y .user .words → 2 * n ≤ length room
       → asked A (on st true r) m (call.read at n room)
@@ -237,9 +236,9 @@ pub record Transfers (A : Program) (y : Layout) (m : List ℕ) (st : State) (r :
 -- power-up of a good image, whatever is pending; n is the image afterwards
 pub record Start (A : Program) (y : Layout) (m n : List ℕ) : Type 0 where
   -- with power enough, and 257 stores always are: Killed if the image says so, else Arbitrate; port free, register 0
-  pub up : (s : ℕ) → length (powerStores y m) ≤ s
-      → asked A offSession m (powerUp s)
-      ≡ poweredTo 0 (on (cond (eqb (killedWord y n) 0) state.Arbitrate state.Killed) false clear) (length (powerStores y m)) n
+  pub up : (v : Session) (s : ℕ) → length (powerStores y m) ≤ s
+      → asked A v m (powerUp s)
+      ≡ gives 0 (on (cond (eqb (killedWord y n) 0) state.Arbitrate state.Killed) false clear) 0 (length (powerStores y m)) n []
   pub enough : length (powerStores y m) ≤ 257
   -- the pending words are stored, nothing is pending and the image is good; EPC word 0 is the CRC-16 over the PC and the L words after it
   pub words : (i : ℕ) → i < y .work .at → (i ≡ y .epc .at → ⊥) → wordAt n i ≡ wordAt (after m (pending y m)) i

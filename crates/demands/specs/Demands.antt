@@ -1,5 +1,5 @@
--- What the buyer asked for (RULES D1 to D3), as statements of any program A. Their proofs of the tag: `demand-1`, `demand-2`, `demand-3` and `any-run` in proofs/.
--- Assumes nothing.
+-- What the buyer asked for (RULES D1 to D3), as statements of any program A. Their proofs of the tag: `demand-1`, `demand-2`, `demand-3`
+-- and `any-run` in proofs/. Assumes nothing.
 use Prim.Native.Nat.{ℕ, _+_, _*_, _/_, _≤_, _<_}
 use mathlib.Core.Path.{_≡_}
 use mathlib.Core.Logic.{_⊎_}
@@ -10,7 +10,7 @@ use lib.ListN.{length, take}
 use Rattle.bits.specs.Words.{Bytes, wordAt, Store, after}
 use Rattle.image.specs.declared.Layout.{Layout}
 use Rattle.image.specs.Layout.{layoutOf, end, blocksIn, within}
-use Rattle.image.specs.Content.{lockWord, permalock}
+use Rattle.image.specs.Content.{lockWord, killedWord, permalock}
 use Rattle.image.specs.declared.Fit.{Fit}
 use Rattle.image.specs.Check.{checkOf, meaning, refused, good}
 use Rattle.image.specs.Rules.{Header, Good}
@@ -19,18 +19,19 @@ use Rattle.replies.specs.Replies.{replyBits}
 use Rattle.replies.specs.Pack.{packed}
 use Rattle.rights.specs.declared.Code.{Code}
 use Rattle.rights.specs.declared.Code.the-variants as code
-use Rattle.rights.specs.Rights.{pwdBit, permaBit}
+use Rattle.rights.specs.Rights.{pwdBit, permaBit, faultNumber}
 use Rattle.stores.specs.Cuts.{Cut, reaches}
 use Rattle.states.specs.declared.State.the-variants as state
 use Rattle.tag.specs.declared.Session.{Session}
 use Rattle.tag.specs.declared.Outcome.{Outcome}
 use Rattle.tag.specs.Session.{offSession}
-use Rattle.tag.specs.Result.{Result, leaves}
+use Rattle.tag.specs.Result.{Result, leaves, lost}
 use Rattle.states.specs.Commands.{linkOf, used}
 use Rattle.tag.specs.Table.{liveOf, replyOr, movedTo}
-use Rattle.demands.specs.Calls.{Call, powerUp, admit, frame, ask, release, register, read, write, Tag, Program, asked, Meets, sessionIn, imageIn, roomIn, powerIn, wordsIn, storesIn, codeIn, valueIn, rowsIn, doneIn, imageAfter, torn, Turn, run, Idle}
+use Rattle.demands.specs.Calls.{Call, powerUp, admit, frame, ask, release, register, read, write, Tag, Program, asked, Meets, sessionIn, imageIn, roomIn, powerIn, wordsIn, storesIn, codeIn, valueIn, imageAfter, torn, Turn, runImage, Idle, answersIn}
 
--- DEMAND 1. Every image, frame and SPI transaction that can be handed over gets one answer of the table; a refusal leaves what the table says.
+-- DEMAND 1. Every image, frame and SPI transaction that can be handed over gets one answer of the table; a refusal leaves what the table
+-- says.
 
 -- the numbers that leave everything
 abbrev pub refuses : ℕ → Bool
@@ -38,12 +39,13 @@ refuses n = within 1 9 n || eqb n 13
 
 -- the error codes
 abbrev pub AnErrorCode : Code → Type 0
-AnErrorCode e = (e ≡ code.Error 0x00) ⊎ (e ≡ code.Error 0x03) ⊎ (e ≡ code.Error 0x04)
+AnErrorCode code.Nothing = ⊥
+AnErrorCode (code.Error e) = (faultNumber e ≡ 0x00) ⊎ (faultNumber e ≡ 0x03) ⊎ (faultNumber e ≡ 0x04)
 
--- number by number: 1 to 9 and 13 leave everything; 10 gives the error reply of its code, leaves the image and uses up the cover number; 11 comes where
--- the power lasts for fewer stores than are needed, and leaves the first s of them, Off and no reply;
--- 12 leaves the image, Arbitrate and no reply; and an answer without a reply changes no byte of the room. Done, it makes the stores of its words and no other
--- (none where it changes no word, 3n + 2 for n); a value is handed back where the register is read, and is 0 elsewhere
+-- number by number: 1 to 9 and 13 leave everything (of a power-up with an Off session); 10 gives the error reply of its code, leaves the
+-- image and uses up the cover number; 11 comes where the power lasts for fewer stores than are needed, and leaves the first s of them, Off
+-- and no reply; 12 leaves the image, Arbitrate and no reply; and an answer without a reply changes no byte of the room. Done, it makes its
+-- stores and no other; a value is handed back where the register is read, and is 0 elsewhere. WHEN each number comes: `Refusals`
 pub record Tabled (t : Tag) (c : Call) (r : Result) : Type 0 where
   pub listed : r .number ≤ 13
   pub everything : refuses (r .number) ≡ true → r ≡ leaves (r .number) (sessionIn t c) (imageIn t c) (roomIn c)
@@ -81,15 +83,15 @@ pub record Checks (m : List ℕ) : Type 0 where
   pub content : 32 ≤ length m → Header (layoutOf m) m → (Good (layoutOf m) m → ⊥) → checkOf m ≡ refused 3
 
 -- the order in which each call's answers are asked for
-abbrev pub orderOf : Call → List ℕ
-orderOf (powerUp s) = 1 ∷ 2 ∷ 3 ∷ 11 ∷ []
-orderOf (admit n) = 5 ∷ 6 ∷ 9 ∷ []
-orderOf (frame f bits fresh room s) = 1 ∷ 2 ∷ 3 ∷ 5 ∷ 6 ∷ 7 ∷ 8 ∷ 9 ∷ 12 ∷ 10 ∷ 4 ∷ 11 ∷ []
-orderOf ask = 5 ∷ 6 ∷ []
-orderOf release = 5 ∷ 6 ∷ []
-orderOf register = 5 ∷ 6 ∷ []
-orderOf (read at count room) = 1 ∷ 2 ∷ 3 ∷ 5 ∷ 6 ∷ 13 ∷ 4 ∷ []
-orderOf (write at d s) = 1 ∷ 2 ∷ 3 ∷ 5 ∷ 6 ∷ 13 ∷ 11 ∷ []
+abbrev pub orderIn : Call → List ℕ
+orderIn (powerUp s) = 1 ∷ 2 ∷ 3 ∷ 11 ∷ []
+orderIn (admit n) = 5 ∷ 6 ∷ 9 ∷ []
+orderIn (frame f bits fresh room s) = 1 ∷ 2 ∷ 3 ∷ 5 ∷ 6 ∷ 7 ∷ 8 ∷ 9 ∷ 12 ∷ 10 ∷ 4 ∷ 11 ∷ []
+orderIn ask = 5 ∷ 6 ∷ []
+orderIn release = 5 ∷ 6 ∷ []
+orderIn register = 5 ∷ 6 ∷ []
+orderIn (read at count room) = 1 ∷ 2 ∷ 3 ∷ 5 ∷ 6 ∷ 13 ∷ 4 ∷ []
+orderIn (write at d s) = 1 ∷ 2 ∷ 3 ∷ 5 ∷ 6 ∷ 13 ∷ 11 ∷ []
 
 abbrev pub numbersOf : List (Result × Bool) → List ℕ
 numbersOf [] = []
@@ -102,9 +104,9 @@ Under (x ∷ xs) last r = ((x .1 ≡ true) × (r ≡ x .0)) ⊎ ((x .1 ≡ false
 
 -- the table, complete and exact: a call's rows have these numbers in this order, and every call falls under one of them or is answered 0
 pub record Exact (A : Program) (t : Tag) (c : Call) : Type 0 where
-  pub order : numbersOf (rowsIn t c) ≡ orderOf c
-  pub zero : doneIn t c .number ≡ 0
-  pub under : Under (rowsIn t c) (doneIn t c) (A t c)
+  pub order : numbersOf (answersIn t c .rows) ≡ orderIn c
+  pub zero : answersIn t c .done .number ≡ 0
+  pub under : Under (answersIn t c .rows) (answersIn t c .done) (A t c)
 
 pub record Demand1 (A : Program) : Type 0 where
   pub check : (m : List ℕ) (p q : Fit) → meaning p ≡ checkOf m → meaning q ≡ checkOf m → p ≡ q
@@ -115,12 +117,13 @@ pub record Demand1 (A : Program) : Type 0 where
 
 -- DEMAND 2 stands in `Commands`: command by command.
 
--- DEMAND 3. From a good image with nothing pending, a frame or SPI write that stores n words, n at least 1: cut it after any number of stores, and cut the
--- power-ups that follow as often as you like. The first whole power-up leaves every word outside WORK as if the command had never come (at most 2n stores
--- made) or as if it had finished (more), each followed by one whole power-up.
--- One byte is whole or absent: a cut may leave one byte of the next store made. The count of the pending words, store 2n + 1, is made where its low byte is.
+-- DEMAND 3. From a good image with nothing pending, a frame or SPI write that stores n words, n at least 1: cut it after any number of
+-- stores, and cut the power-ups that follow as often as you like. The first whole power-up leaves every word outside WORK as if the
+-- command had never come (at most 2n stores made) or as if it had finished (more), each followed by one whole power-up. One byte is whole
+-- or absent: a cut may leave one byte of the next store made. The count of the pending words, store 2n + 1, is made where its low byte
+-- is.
 
--- a command that may store, but for the power
+-- a call that may store, without its s
 pub data Storing : Type 0 where
   byRadio : List ℕ → ℕ → ℕ → List ℕ → Storing
   byPort : ℕ → List ℕ → Storing
@@ -136,7 +139,8 @@ Rising [] = Unit {0}
 Rising (s ∷ []) = Unit {0}
 Rising (s ∷ u ∷ ss) = (s .at < u .at) × Rising (u ∷ ss)
 
--- from a good image with nothing pending, c is done with power for `enough`, and changes n words; what is lent as an image consists of bytes
+-- from a good image with nothing pending, c is done with power for `enough`, and changes n words; what is lent as an image consists of
+-- bytes
 pub record Completes (A : Program) (y : Layout) (t : Tag) (c : Storing) (n enough : ℕ) : Type 0 where
   pub bytes : Bytes (t .image)
   pub idle : Idle y (t .image)
@@ -176,22 +180,25 @@ pub record Survives (A : Program) (y : Layout) (t : Tag) (c : Storing) (n enough
 abbrev pub Demand3 : Program → Type 0
 Demand3 A = (y : Layout) (t : Tag) (c : Storing) (n enough : ℕ) → Completes A y t c n enough → Survives A y t c n enough
 
--- So, through any run of commands, SPI transfers, admissions, cuts and power-ups from such an image, with any inputs and any sessions: from any point of
--- the run to any later one the image stays good, header and TID stay, no permalock is taken off, the pwd bit of a permalocked pair stays, and no USER word of a
--- permalocked block changes.
+-- And through any run of commands, SPI transfers, admissions, cuts and power-ups from such an image, with any inputs and any sessions:
+-- from any point of the run to any later one the image stays good, header and TID stay, no permalock is taken off, the pwd bit of a
+-- permalocked pair stays, a killed tag stays killed, and no USER word of a permalocked block changes.
 pub record Kept (y : Layout) (m n : List ℕ) : Type 0 where
   pub sound : checkOf n ≡ good y
   pub header : (i : ℕ) → i < 16 → wordAt n i ≡ wordAt m i
   pub tid : (i : ℕ) → y .tid .at ≤ i → i < end (y .tid) → wordAt n i ≡ wordAt m i
   pub locks : (k : ℕ) → k < 5 → permaBit (lockWord y m) k ≡ 1 → permaBit (lockWord y n) k ≡ 1
   pub pairs : (k : ℕ) → k < 5 → permaBit (lockWord y m) k ≡ 1 → pwdBit (lockWord y n) k ≡ pwdBit (lockWord y m) k
+  pub killed : killedWord y m ≡ 1 → killedWord y n ≡ 1
   pub blocks : (b : ℕ) → b < blocksIn y → permalock y m b ≡ 1 → permalock y n b ≡ 1
   pub words : (i : ℕ) → i < y .user .words → permalock y m (i / y .block) ≡ 1 → wordAt n (y .user .at + i) ≡ wordAt m (y .user .at + i)
 
 abbrev pub AnyRun : Program → Type 0
-AnyRun A = (y : Layout) (m : List ℕ) (before later : List Turn) → Bytes m → Idle y m → Kept y (run A m before) (run A m (before ++ later))
+AnyRun A = (y : Layout) (m : List ℕ) (before later : List Turn) → Bytes m → Idle y m
+    → Kept y (runImage A m before) (runImage A m (before ++ later))
 
--- The buyer's own words, "a word store is whole or absent", are the case where no word is torn: `whole-words` and `whole-runs` in proofs/Whole derive it.
+-- The buyer's own words, "a word store is whole or absent", are the case where no word is torn: `whole-words` and `whole-runs` in
+-- proofs/Whole derive it.
 
 -- the image after power-ups with power for ks stores, and after a run of calls
 abbrev pub wholePowerUps : Program → List ℕ → List ℕ → List ℕ

@@ -18,7 +18,8 @@ use Rattle.frames.specs.Frames.{heardOf, checksumRight}
 use Rattle.replies.specs.Pack.{filled, packed}
 use Rattle.replies.specs.Replies.{checked}
 use Rattle.rights.specs.Rights.{writeCode}
-use Rattle.stores.specs.Stores.{powerStores}
+use Rattle.states.specs.Commands.{plainLink}
+use Rattle.stores.specs.Stores.{powerStores, changeStores}
 use Rattle.stores.specs.Cuts.{Cut}
 use Rattle.stores.specs.Worked.{worked-bytes}
 use Rattle.states.specs.declared.Cover.the-variants as cover
@@ -28,15 +29,16 @@ use Rattle.states.specs.declared.State.the-variants as state
 use Rattle.replies.specs.declared.Reply.the-variants as reply
 use Rattle.tag.specs.declared.Session.{Session}
 use Rattle.tag.specs.Session.{offSession, on, clear}
-use Rattle.tag.specs.Result.{Result}
+use Rattle.tag.specs.Result.{Result, firstOf}
 use Rattle.tag.specs.Power.{powerUpOf}
-use Rattle.tag.specs.Table.{Input, input, everything, effect, storesOf, frameOf}
+use Rattle.tag.specs.Table.{Input, everything, effect, storesOf, frameOf}
 use Rattle.demands.specs.Calls.{powerUp, admit, frame, ask, release, register, read, write, Program, answerOf, torn}
 use Rattle.demands.specs.Demands.{Demand1, Demand3, Completes, lasting}
-use Rattle.demands.specs.Commands.{Demand2, hears, link, done}
+use Rattle.demands.specs.Commands.{Demand2, answersTo, link, obeyed}
 use Rattle.demands.specs.Worked.{write3, readTwo}
 use Rattle.demands.specs.Torn.{tag, p7}
 use Rattle.demands.specs.Met.{air, met}
+use Rattle.tag.specs.Steps.{input}
 
 -- a program that answers frames so, and every other call as the tag does
 abbrev pub framing : (Input → Result) → Program
@@ -59,22 +61,22 @@ withRoom room r = record { number = r .number; session = r .session; reply = r .
 abbrev pub withStores : ℕ → Result → Result
 withStores n r = record { number = r .number; session = r .session; reply = r .reply; stores = n; value = r .value; image = r .image; room = r .room }
 
--- refuses all; is all right, but its reply is always the same bits; or stores nothing; or stores the words first and shams the staging behind them; or invents
--- the stores made
+-- refuses all; is all right, but its reply is always the same bits; or stores nothing; or stores the words first and shams the staging
+-- behind them; or invents the stores made
 abbrev pub refusing : ℕ → Program
 refusing n = framing (λ i. everything i n)
 
 abbrev pub repeating : List ℕ → Program
-repeating bits = framing (λ i. withRoom (packed bits (i .room)) (frameOf i))
+repeating bits = framing (λ i. withRoom (packed bits (i .room)) (firstOf (frameOf changeStores i)))
 
 abbrev pub idling : Program
-idling = framing (λ i. withImage (i .image) (frameOf i))
+idling = framing (λ i. withImage (i .image) (firstOf (frameOf changeStores i)))
 
 abbrev pub shamming : Program
-shamming = framing (λ i. withImage (after (i .image) (take (i .power) (effect i .words ++ storesOf i))) (frameOf i))
+shamming = framing (λ i. withImage (after (i .image) (take (i .power) (effect i .words ++ storesOf changeStores i))) (firstOf (frameOf changeStores i)))
 
 abbrev pub inventing : ℕ → Program
-inventing n = framing (λ i. withStores n (frameOf i))
+inventing n = framing (λ i. withStores n (firstOf (frameOf changeStores i)))
 
 -- what demand 2 says of P7's Write and of a Read of USER 2 and 3, both in Open, and what that is on the worked image
 abbrev pub linkIn : Link
@@ -84,15 +86,19 @@ abbrev pub opened : Session
 opened = on (state.Open linkIn) false clear
 
 abbrev pub writes : Result
-writes = done workedLayout (air write3 66) clear (state.Open (link 0x1234 cover.Nothing half.Nothing)) (reply.Success 0x1234) (store 31 0xABCD ∷ [])
+writes =
+    obeyed workedLayout (air write3 66) clear
+    (record { state = state.Open (plainLink 0x1234); reply = reply.Success 0x1234; words = store 31 0xABCD ∷ [] })
 
 abbrev pub reads : Result
-reads = done workedLayout (air readTwo 58) clear (state.Open (link 0x1234 cover.Nothing half.Nothing)) (reply.Words 30 2 0x1234) []
+reads =
+    obeyed workedLayout (air readTwo 58) clear
+    (record { state = state.Open (plainLink 0x1234); reply = reply.Words 30 2 0x1234; words = [] })
 
-pub must-write : (A : Program) → Demand2 A → hears A (air write3 66) opened ≡ writes
+pub must-write : (A : Program) → Demand2 A → answersTo A (air write3 66) opened ≡ writes
 must-write A d = d .radio workedLayout (air write3 66) clear (met .idle) .write false 0x1234 0x5A5A 3 3 0xF197 (met .write-right) (met .write .0) (met .write .1)
 
-pub must-read : (A : Program) → Demand2 A → hears A (air readTwo 58) opened ≡ reads
+pub must-read : (A : Program) → Demand2 A → answersTo A (air readTwo 58) opened ≡ reads
 must-read A d = d .radio workedLayout (air readTwo 58) clear (met .idle) .read false 0x1234 (cover.Number 0x5A5A) 3 2 2 2 (met .read-right) (inl (lit≤ tt, refl)) (met .read .0) (met .read .1)
 
 record Computed : Type 0 where
@@ -122,7 +128,8 @@ idling-falls d =
     let z : _≡_ {A = ℕ} 10 0xABCD = sym (computed .before) ∙ ap (λ (r : Result). wordAt (r .image) 31) (must-write idling d) ∙ computed .word in
     omega arith
 
--- demand 3, at a cut of 1: one store made is at most 2n, but the word is new after the next power-up; torn there, it is neither the old one nor the new one
+-- demand 3, at a cut of 1: one store made is at most 2n, but the word is new after the next power-up; torn there, it is neither the old
+-- one nor the new one
 sham-stores : Completes shamming workedLayout tag p7 1 5
 unfolding frameOf layoutOf headerGood blocksIn contentGood rulesHold worked wordAt withWord wordsBits bitsOf crcOf fieldAt pointerAt heardOf checksumRight filled packed checked writeCode write3
 sham-stores = record { bytes = worked-bytes; idle = met .idle; some = lit≤ tt; done = refl; words = refl }
@@ -131,11 +138,11 @@ pub record Sham : Type 0 where
   pub starts : answerOf (record { session = offSession; image = torn shamming tag (lasting p7 1) 156 }) (powerUp 257) .number ≡ 0
   pub mixes : wordAt (answerOf (record { session = offSession; image = torn shamming tag (lasting p7 1) 156 }) (powerUp 257) .image) 31 ≡ 0xABCD
   pub tears : wordAt (answerOf (record { session = offSession; image = torn shamming tag (lasting p7 0) 62 }) (powerUp 257) .image) 31 ≡ 0xAB0A
-  pub whole : powerUpOf worked 257 .number ≡ 0
-  pub old : wordAt (powerUpOf worked 257 .image) 31 ≡ 10
+  pub whole : firstOf (powerUpOf worked 257) .number ≡ 0
+  pub old : wordAt (firstOf (powerUpOf worked 257) .image) 31 ≡ 10
 
 pub sham : Sham
-unfolding powerUpOf powerStores layoutOf headerGood blocksIn contentGood rulesHold worked wordAt withWord wordsBits bitsOf crcOf fieldAt pointerAt heardOf write3
+unfolding powerUpOf powerStores layoutOf headerGood blocksIn contentGood rulesHold worked wordAt withWord wordsBits bitsOf crcOf fieldAt pointerAt heardOf checksumRight write3
 sham = record { starts = refl; mixes = refl; tears = refl; whole = refl; old = refl }
 
 pub shamming-falls : Demand3 shamming → ⊥

@@ -1,4 +1,5 @@
--- The rights and codes of the rules as facts (RULES 3.18 to 3.22, and 4.4 of the port): what must hold so that no error code applies. Assumes nothing.
+-- The rights and codes of the rules as facts (RULES 3.18 to 3.22, and 4.4 of the port): what must hold so that no error code applies.
+-- Assumes nothing.
 use Prim.Native.Nat.{ℕ, zero, suc, _+_, _*_, _/_, _%_, _^_, _≤_, _<_}
 use mathlib.Core.Path.{_≡_}
 use mathlib.Core.Logic.{_≢_, _⊎_}
@@ -29,7 +30,7 @@ MayWrite y m secured b i =
     ⊎ ((b ≡ 1) × (1 ≤ i) × Opens secured l 2)
     ⊎ ((b ≡ 3) × Opens secured l 4 × (permalock y m (i / y .block) ≡ 0))
 
--- 3.20: n words of a bank of so many, from word p on, end within it
+-- 3.20: n words of a bank of so many, from word p on, begin and end within it
 abbrev pub Within : ℕ → ℕ → ℕ → Type 0
 Within words p n = (p < words) × (p + n ≤ words)
 
@@ -67,7 +68,7 @@ pub record Lockable (y : Layout) (m : List ℕ) (mask action : ℕ) : Type 0 whe
 abbrev pub bitIn : ℕ → ℕ → ℕ
 bitIn w t = w / 2 ^ t % 2
 
-pub record Masked (old mask action new : ℕ) : Type 0 where
+pub record LockedBy (old mask action new : ℕ) : Type 0 where
   pub masked : (t : ℕ) → t < 10 → bitIn mask t ≡ 1 → bitIn new t ≡ bitIn action t
   pub kept : (t : ℕ) → t < 10 → bitIn mask t ≡ 0 → bitIn new t ≡ bitIn old t
   pub small : old < 1024 → action < 1024 → new < 1024

@@ -5,15 +5,16 @@
 --   hears frames while the port is held      Refusals: unready .held
 --   answers 9 before 8            Refusals: unheard .checksum
 --   uses up no cover number       Demand 2: radio .write
-use Prim.Native.Nat.{ℕ, suc}
+use Prim.Native.Nat.{ℕ, suc, _-_}
 use mathlib.Core.Path.{_≡_, refl, sym, ap, _∙_}
 use mathlib.Core.Logic.{_≢_, inl}
-use mathlib.Core.Bool.{Bool, true, false}
+use mathlib.Core.Bool.{Bool, true, false, cond}
+use lib.Dec.{eqb}
 use mathlib.Core.List.{List, _++_}
 use native.Mathlib.Omega.{arith}
 use lib.ListN.{take, drop}
 use Rattle.bits.specs.Words.{wordAt, withWord}
-use Rattle.bits.specs.Bits.{fieldAt, bitsOf, wordsBits}
+use Rattle.bits.specs.Bits.{fieldAt, bitsOf, wordsBits, bitsFrom}
 use Rattle.bits.specs.First.{first}
 use Rattle.crc.specs.Crc.{crcOf}
 use Rattle.ebv.specs.Ebv.{pointerAt}
@@ -21,7 +22,6 @@ use Rattle.image.specs.Layout.{layoutOf, headerGood, blocksIn}
 use Rattle.image.specs.Content.{rulesHold, contentGood}
 use Rattle.image.specs.Worked.{worked, workedLayout}
 use Rattle.frames.specs.declared.Order.the-variants as order
-use Rattle.frames.specs.declared.Command.{Command}
 use Rattle.frames.specs.Message.{Message}
 use Rattle.frames.specs.Message as heard
 use Rattle.frames.specs.Frames.{span, heardOf, checksumRight}
@@ -35,39 +35,45 @@ use Rattle.states.specs.declared.Link.{Link}
 use Rattle.tag.specs.declared.Session.{Session}
 use Rattle.tag.specs.Session.{on, clear}
 use Rattle.states.specs.Commands.{linkOf, withLink, isCovered}
-use Rattle.tag.specs.Result.{Result}
-use Rattle.tag.specs.Table.{input, liveOf, movedTo, effect, storesOf, replied, rows, frameOf}
+use Rattle.tag.specs.Result.{Result, firstOf}
+use Rattle.tag.specs.Table.{Input, liveOf, movedTo, frameOf}
 use Rattle.tag.specs.Port.{bitOf}
 use Rattle.demands.specs.Calls.{Program}
-use Rattle.demands.specs.Commands.{Demand2, hears, link}
+use Rattle.demands.specs.Commands.{Demand2, answersTo, link}
 use Rattle.demands.specs.Refusals.{Refusals}
 use Rattle.demands.specs.Worked.{write3}
 use Rattle.demands.specs.Answers.{badSum}
 use Rattle.demands.specs.Met.{air, met, access}
 use Rattle.demands.specs.Empty.{framing, opened, must-write}
+use Rattle.tag.specs.Steps.{input}
+use Rattle.stores.specs.Stores.{changeStores}
+use Rattle.demands.specs.Terms.{sealed}
 
--- frames answered by another list of rows: without row k; with row k behind the next one
+-- frames answered by another list of rows: without row k
 abbrev pub byRows : (List (Result × Bool) → List (Result × Bool)) → Program
-byRows f = framing (λ i. first (f (rows i)) (replied i 0 (effect i .state) (storesOf i)))
+byRows f = framing (λ i. let t = frameOf changeStores i in first (f (t .rows)) (t .done))
 
 abbrev pub without : ℕ → Program
 without k = byRows (λ rs. take k rs ++ drop (suc k) rs)
 
-abbrev pub behind : ℕ → Program
-behind k = byRows (λ rs. take k rs ++ take 1 (drop (suc k) rs) ++ take 1 (drop k rs) ++ drop (suc (suc k)) rs)
-
--- the rows 6, 8 and 12 are numbers 4, 6 and 8 of the table's list
+-- the rows 6 and 12 are numbers 4 and 8 of the table's list
 abbrev pub takesAnyPassword : Program
 takesAnyPassword = without 8
-
-abbrev pub ignoresChecksum : Program
-ignoresChecksum = without 6
 
 abbrev pub hearsWhileHeld : Program
 hearsWhileHeld = without 4
 
+-- the answer to the frame with the right CRC-16 in place of its own
+abbrev mended : Input → Input
+mended i = input (i .session) (i .image) (packed (sealed (bitsFrom (i .frame) 0 (i .bits - 16))) (i .frame)) (i .bits) (i .fresh) (i .room) (i .power)
+
+abbrev pub ignoresChecksum : Program
+ignoresChecksum = framing (λ i. firstOf (frameOf changeStores (mended i)))
+
+-- what 9 would answer to that frame comes first
 abbrev pub nineBeforeEight : Program
-nineBeforeEight = behind 6
+nineBeforeEight =
+    framing (λ i. let r = firstOf (frameOf changeStores (mended i)) in cond (eqb (r .number) 9) r (firstOf (frameOf changeStores i)))
 
 -- takes the frame's number for its handle
 abbrev named : ℕ → Link → Link
@@ -75,7 +81,6 @@ named n k = record { handle = n; cover = k .cover; half = k .half }
 
 abbrev numberOr : ℕ → Message → ℕ
 numberOr n (heard.refused k) = n
-numberOr n heard.nak = n
 numberOr n (heard.said c) = c .number
 
 abbrev renamed : Session → Message → Session
@@ -83,14 +88,15 @@ renamed s x = let l = liveOf (s .power) in let k = linkOf (l .state) in movedTo 
 
 abbrev pub ignoresHandle : Program
 ignoresHandle =
-    framing (λ i. frameOf (input (renamed (i .session) (heardOf (i .frame) (i .bits))) (i .image) (i .frame) (i .bits) (i .fresh) (i .room) (i .power)))
+    framing (λ i. firstOf (frameOf changeStores (input (renamed (i .session) (heardOf (i .frame) (i .bits))) (i .image) (i .frame) (i .bits) (i .fresh) (i .room) (i .power))))
 
 -- leaves the session as it was
 abbrev pub keepsCover : Program
 keepsCover =
-    framing (λ i. let r = frameOf i in record { number = r .number; session = i .session; reply = r .reply; stores = r .stores; value = 0; image = r .image; room = r .room })
+    framing (λ i. let r = firstOf (frameOf changeStores i) in record { number = r .number; session = i .session; reply = r .reply; stores = r .stores; value = 0; image = r .image; room = r .room })
 
--- named inputs: a second half of Access in Secured, where 1111h waits as the upper half of the password 00000000h; P7's Write with another CRC-16, with another
+-- named inputs: a second half of Access in Secured, where 1111h waits as the upper half of the password 00000000h; P7's Write with
+-- another CRC-16, with another
 -- handle, and while the port is held
 abbrev waiting : Session
 waiting = on (state.Secured (link 0x1234 (cover.Number 0x5A5A) (half.Access 0x1111))) false clear
@@ -101,25 +107,24 @@ other = on (state.Open (link 0x4321 (cover.Number 0x5A5A) half.Nothing)) false c
 abbrev arbitrate : Session
 arbitrate = on state.Arbitrate false clear
 
-abbrev said : Command
-said = record { number = 0x1234; order = order.Write (span 3 3 1) 0xF197 }
-
 record Numbers : Type 0 where
-  password : hears takesAnyPassword (air access 56) waiting .number ≡ 0
-  handle : hears ignoresHandle (air write3 66) other .number ≡ 0
-  checksum : hears ignoresChecksum (air badSum 66) opened .number ≡ 0
-  held : hears hearsWhileHeld (air write3 66) (on (state.Open (link 0x1234 (cover.Number 0x5A5A) half.Nothing)) true clear) .number ≡ 0
-  first : hears nineBeforeEight (air badSum 66) arbitrate .number ≡ 9
-  heard : heardOf badSum 66 ≡ heard.said said
-  wrong : checksumRight badSum 66 ≡ false
+  password : answersTo takesAnyPassword (air access 56) waiting .number ≡ 0
+  handle : answersTo ignoresHandle (air write3 66) other .number ≡ 0
+  checksum : answersTo ignoresChecksum (air badSum 66) opened .number ≡ 0
+  held : answersTo hearsWhileHeld (air write3 66) (on (state.Open (link 0x1234 (cover.Number 0x5A5A) half.Nothing)) true clear) .number ≡ 0
+  first : answersTo nineBeforeEight (air badSum 66) arbitrate .number ≡ 9
+  wrong : heardOf badSum 66 ≡ heard.refused 8
 
 numbers : Numbers
 unfolding frameOf layoutOf headerGood blocksIn contentGood rulesHold worked wordAt withWord wordsBits bitsOf crcOf fieldAt pointerAt heardOf checksumRight filled packed checked writeCode write3 access
-numbers = record { password = refl; handle = refl; checksum = refl; held = refl; first = refl; heard = refl; wrong = refl }
+numbers = record { password = refl; handle = refl; checksum = refl; held = refl; first = refl; wrong = refl }
 
 -- the handle is 1234h, not 4321h; the password's upper half is 0, not 1111h
 other-handle : _≢_ {A = ℕ} 0x1234 0x4321
 other-handle e = omega (arith, e)
+
+no-nak : order.Write (span 3 3 1) 0xF197 ≢ order.Nak
+no-nak e = let z : _≡_ {A = ℕ} 0 1 = cc in omega arith
 
 other-half : 0x1111 ≢ wordAt worked 20
 unfolding worked wordAt
@@ -137,7 +142,7 @@ handle-caught d =
     let z : _≡_ {A = ℕ} 0 9 =
     sym (numbers .handle)
     ∙ ap (λ (r : Result). r .number)
-    (d .wrong workedLayout (air write3 66) clear (met .idle) .handle false 0x4321 (cover.Number 0x5A5A) half.Nothing 0x1234 (order.Write (span 3 3 1) 0xF197) (met .write .0) (inl other-handle)) in
+    (d .wrong workedLayout (air write3 66) clear (met .idle) .handle false 0x4321 (cover.Number 0x5A5A) half.Nothing 0x1234 (order.Write (span 3 3 1) 0xF197) (met .write .0) no-nak (inl other-handle)) in
     omega arith
 
 pub checksum-caught : Refusals ignoresChecksum → ⊥
@@ -145,7 +150,7 @@ checksum-caught d =
     let z : _≡_ {A = ℕ} 0 8 =
     sym (numbers .checksum)
     ∙ ap (λ (r : Result). r .number)
-    (d .unheard workedLayout (air badSum 66) (state.Open (link 0x1234 (cover.Number 0x5A5A) half.Nothing)) clear (met .idle) .checksum said (numbers .heard) (numbers .wrong)) in
+    (d .unheard workedLayout (air badSum 66) (state.Open (link 0x1234 (cover.Number 0x5A5A) half.Nothing)) clear (met .idle) .checksum (numbers .wrong)) in
     omega arith
 
 pub held-caught : Refusals hearsWhileHeld → ⊥
@@ -159,7 +164,7 @@ pub order-caught : Refusals nineBeforeEight → ⊥
 order-caught d =
     let z : _≡_ {A = ℕ} 9 8 =
     sym (numbers .first)
-    ∙ ap (λ (r : Result). r .number) (d .unheard workedLayout (air badSum 66) state.Arbitrate clear (met .idle) .checksum said (numbers .heard) (numbers .wrong)) in
+    ∙ ap (λ (r : Result). r .number) (d .unheard workedLayout (air badSum 66) state.Arbitrate clear (met .idle) .checksum (numbers .wrong)) in
     omega arith
 
 -- a session's cover number: there or not

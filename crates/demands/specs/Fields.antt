@@ -1,40 +1,56 @@
--- What a frame's bits say (RULES 3.6 to 3.8), as facts: codes, places and lengths of each command, and EBV-8 pointers group by group. Assumes nothing.
+-- What a frame's bits say (RULES 3.6 to 3.8), as facts: codes, places and lengths of each command, and EBV-8 pointers group by group.
+-- Assumes nothing.
 use Prim.Native.Nat.{ℕ, _+_, _-_, _*_, _≤_, _<_}
 use mathlib.Core.Path.{_≡_}
 use mathlib.Core.Logic.{_≢_, _⊎_}
 use mathlib.Core.List.{List}
 use lib.ListN.{length}
-use Rattle.bits.specs.Bits.{fieldAt}
+use Rattle.bits.specs.Bits.{fieldAt, bitsFrom}
 use Rattle.ebv.specs.Ebv.{pointerAt}
 use Rattle.ebv.specs.Ebv as pointer
 use Rattle.frames.specs.declared.Order.{Order}
 use Rattle.frames.specs.declared.Order.the-variants as order
 use Rattle.frames.specs.Message as heard
 use Rattle.frames.specs.Frames.{span, heardOf}
+use Rattle.crc.specs.Crc.{crcOf}
 
--- the frame of n bits is the order o where n is k, its number standing before the CRC-16; with another length it is 7
-abbrev pub Takes : List ℕ → ℕ → ℕ → Order → Type 0
-Takes f n k o = (n ≡ k → heardOf f n ≡ heard.said (record { number = fieldAt f (k - 32) 16; order = o })) × (n ≢ k → heardOf f n ≡ heard.refused 7)
+-- a frame's last 16 bits are the CRC-16 of those before them
+abbrev pub Summed : List ℕ → ℕ → Type 0
+Summed f n = fieldAt f (n - 16) 16 ≡ crcOf (bitsFrom f 0 (n - 16))
+
+-- the frame of n bits is the order o where n is k and the CRC-16 is right, its number standing before the CRC-16; with another length it is
+-- 7, with this one and a wrong CRC-16 it is 8
+pub record Takes (f : List ℕ) (n k : ℕ) (o : Order) : Type 0 where
+  pub right : n ≡ k → Summed f n → heardOf f n ≡ heard.said (record { number = fieldAt f (k - 32) 16; order = o })
+  pub length : n ≢ k → heardOf f n ≡ heard.refused 7
+  pub checksum : n ≡ k → (Summed f n → ⊥) → heardOf f n ≡ heard.refused 8
 
 -- after a pointer at bit i of the value p in e bytes; without one it is 7
 abbrev pub After : List ℕ → ℕ → ℕ → (ℕ → ℕ → Type 0) → Type 0
-After f n i P = ((p e : ℕ) → pointerAt f n i ≡ pointer.whole p e → P p e) × (pointerAt f n i ≡ pointer.refused 7 → heardOf f n ≡ heard.refused 7)
+After f n i P = ((p e : ℕ) → pointerAt f n i ≡ pointer.whole p e → P p e)
+    × (pointerAt f n i ≡ pointer.refused 7 → heardOf f n ≡ heard.refused 7)
 
--- a frame of n bits, at least 8, in as many bytes; the first eight are its code
+-- a frame of n bits, at least 8, in bytes that hold them; the first eight are its code
 pub record Coded (f : List ℕ) (n : ℕ) : Type 0 where
-  pub nak : fieldAt f 0 8 ≡ 0xC0 → (n ≡ 8 → heardOf f n ≡ heard.nak) × (n ≢ 8 → heardOf f n ≡ heard.refused 7)
+  pub nak : fieldAt f 0 8 ≡ 0xC0 → (n ≡ 8 → heardOf f n ≡ heard.said (record { number = 0; order = order.Nak }))
+      × (n ≢ 8 → heardOf f n ≡ heard.refused 7)
   pub req-rn : fieldAt f 0 8 ≡ 0xC1 → Takes f n 40 order.ReqRn
-  pub read : fieldAt f 0 8 ≡ 0xC2 → After f n 10 (λ p e. Takes f n (50 + 8 * e) (order.Read (span (fieldAt f 8 2) p (fieldAt f (10 + 8 * e) 8))))
-  pub write : fieldAt f 0 8 ≡ 0xC3 → After f n 10 (λ p e. Takes f n (58 + 8 * e) (order.Write (span (fieldAt f 8 2) p 1) (fieldAt f (10 + 8 * e) 16)))
+  pub read : fieldAt f 0 8 ≡ 0xC2
+      → After f n 10 (λ p e. Takes f n (50 + 8 * e) (order.Read (span (fieldAt f 8 2) p (fieldAt f (10 + 8 * e) 8))))
+  pub write : fieldAt f 0 8 ≡ 0xC3
+      → After f n 10 (λ p e. Takes f n (58 + 8 * e) (order.Write (span (fieldAt f 8 2) p 1) (fieldAt f (10 + 8 * e) 16)))
   pub kill : fieldAt f 0 8 ≡ 0xC4 → Takes f n 59 (order.Kill (fieldAt f 8 16))
   pub lock : fieldAt f 0 8 ≡ 0xC5 → Takes f n 60 (order.Lock (fieldAt f 8 10) (fieldAt f 18 10))
   pub access : fieldAt f 0 8 ≡ 0xC6 → Takes f n 56 (order.Access (fieldAt f 8 16))
   pub block-write : fieldAt f 0 8 ≡ 0xC7
-      → After f n 10 (λ p e. let c = fieldAt f (10 + 8 * e) 8 in Takes f n (50 + 8 * e + 16 * c) (order.BlockWrite (span (fieldAt f 8 2) p c) (18 + 8 * e)))
-  pub block-erase : fieldAt f 0 8 ≡ 0xC8 → After f n 10 (λ p e. Takes f n (50 + 8 * e) (order.BlockErase (span (fieldAt f 8 2) p (fieldAt f (10 + 8 * e) 8))))
+      → After f n 10 (λ p e. let c = fieldAt f (10 + 8 * e) 8 in
+      Takes f n (50 + 8 * e + 16 * c) (order.BlockWrite (span (fieldAt f 8 2) p c) (18 + 8 * e)))
+  pub block-erase : fieldAt f 0 8 ≡ 0xC8
+      → After f n 10 (λ p e. Takes f n (50 + 8 * e) (order.BlockErase (span (fieldAt f 8 2) p (fieldAt f (10 + 8 * e) 8))))
   -- an RFU byte, a bit that is 0 where it reads, bank, pointer and range; and where it locks the mask
   pub permalock-read : fieldAt f 0 8 ≡ 0xC9 → fieldAt f 16 1 ≡ 0
-      → After f n 19 (λ p e. Takes f n (59 + 8 * e) (order.ReadPermalock (fieldAt f 8 8) (span (fieldAt f 17 2) p (fieldAt f (19 + 8 * e) 8))))
+      → After f n 19 (λ p e. let s = span (fieldAt f 17 2) p (fieldAt f (19 + 8 * e) 8) in
+      Takes f n (59 + 8 * e) (order.ReadPermalock (fieldAt f 8 8) s))
   pub permalock : fieldAt f 0 8 ≡ 0xC9 → fieldAt f 16 1 ≢ 0
       → After f n 19 (λ p e. let c = fieldAt f (19 + 8 * e) 8 in
       Takes f n (59 + 8 * e + 16 * c) (order.Permalock (fieldAt f 8 8) (span (fieldAt f 17 2) p c) (27 + 8 * e)))

@@ -2,6 +2,7 @@ pub mod Calls
 pub mod Demands
 pub mod Facts
 pub mod Fields
+pub mod Images
 pub mod Terms
 pub mod Commands
 pub mod Worked

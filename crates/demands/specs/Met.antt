@@ -21,7 +21,6 @@ use Rattle.image.specs.Check.{checkOf}
 use Rattle.image.specs.Worked.{worked, workedLayout}
 use Rattle.frames.specs.declared.Order.{Order}
 use Rattle.frames.specs.declared.Order.the-variants as order
-use Rattle.frames.specs.Message as heard
 use Rattle.frames.specs.Frames.{span, heardOf, checksumRight}
 use Rattle.replies.specs.declared.Reply.{Reply}
 use Rattle.replies.specs.declared.Reply.the-variants as reply
@@ -44,6 +43,7 @@ use Rattle.demands.specs.Commands.{Air, Says, Enough, wordsTo}
 use Rattle.demands.specs.Worked.{reqRn, write3, readTwo, usedUp}
 use Rattle.demands.specs.Torn.{tag, p7}
 use Rattle.demands.specs.Ports.{holding, locked, fourWords}
+use Rattle.tag.specs.Result.{firstOf}
 
 -- further frames: handle 1234h, cover number 5A5Ah. Req_RN with the handle
 unfoldable pub reqCover : List ℕ
@@ -84,7 +84,8 @@ air f bits = record { image = worked; frame = f; bits = bits; fresh = 0x5678; ro
 
 -- it says the order, and its room and power do for the reply and the words
 abbrev Comes : List ℕ → ℕ → ℕ → Order → Reply → List Store → Type 0
-Comes f bits n o rp ws = Says (air f bits) n o × Enough workedLayout (air f bits) rp ws
+Comes f bits n o rp ws = Says (air f bits) n o
+    × Enough workedLayout (air f bits) (record { state = state.Arbitrate; reply = rp; words = ws })
 
 -- what a frame call may hand back for P7's Write
 abbrev outcome : Outcome
@@ -115,7 +116,8 @@ lockable e =
       user = λ f. absurd (f refl);
     }
 
-perma-lockable : every (λ k. eqb (bitAt perma3 (35 + k)) 0 || ltb k 4) 16 ≡ true → pwdBit (lockWord workedLayout worked) 4 ≡ 0 → permaBit (lockWord workedLayout worked) 4 ≡ 0
+perma-lockable : every (λ k. eqb (bitAt perma3 (35 + k)) 0 || ltb k 4) 16 ≡ true → pwdBit (lockWord workedLayout worked) 4 ≡ 0
+    → permaBit (lockWord workedLayout worked) 4 ≡ 0
     → blocksIn workedLayout ≡ 4 → PermaLockable workedLayout worked 0 1 perma3 35
 perma-lockable e p q b =
     record {
@@ -157,14 +159,15 @@ pub record Met : Type 0 where
   pub permalock-read-right : 0 + 1 ≤ workedLayout .perma .words
   pub permalocks : Comes perma3 83 0x1234 (order.Permalock 0 (span 3 0 1) 35) (reply.Success 0x1234) (store 44 0x1000 ∷ [])
   pub permalocks-right : PermaLockable workedLayout worked 0 1 perma3 35
-  pub nak : heardOf (0xC0 ∷ []) 8 ≡ heard.nak
+  pub nak : Comes (0xC0 ∷ []) 8 0 order.Nak reply.Silence []
   pub engine : (2 + 4 ≤ workedLayout .user .words) × (length fourWords ≡ 8)
   pub engine-words : (j : ℕ) → j < 4 → PortWrites workedLayout worked (2 + j)
   -- demand 3: a Write of one word and an SPI write of four, done; the power-ups after their cuts, whole
   pub radio-done : Completes answerOf workedLayout tag p7 1 5
-  pub radio-whole : (powerUpOf (answerOf tag (lasting p7 2) .image) 257 .number ≡ 0) × (powerUpOf (answerOf tag (lasting p7 3) .image) 257 .number ≡ 0)
+  pub radio-whole : (firstOf (powerUpOf (answerOf tag (lasting p7 2) .image) 257) .number ≡ 0)
+      × (firstOf (powerUpOf (answerOf tag (lasting p7 3) .image) 257) .number ≡ 0)
   pub port-done : Completes answerOf workedLayout holder (byPort 2 fourWords) 4 14
-  pub port-whole : powerUpOf (answerOf holder (lasting (byPort 2 fourWords) 9) .image) 257 .number ≡ 0
+  pub port-whole : firstOf (powerUpOf (answerOf holder (lasting (byPort 2 fourWords) 9) .image) 257) .number ≡ 0
   -- any run: an image with a permalocked block
   pub locked-block : Bytes locked × Idle workedLayout locked × (permalock workedLayout locked 0 ≡ 1)
 
@@ -174,27 +177,27 @@ met =
     record {
       one = refl;
       idle = record { sound = refl; nothing = refl };
-      req-rn = (record { heard = refl; right = refl }, (lit≤ tt, lit≤ tt));
-      req-rn-cover = (record { heard = refl; right = refl }, (lit≤ tt, lit≤ tt));
-      read = (record { heard = refl; right = refl }, (lit≤ tt, lit≤ tt));
+      req-rn = (refl, (lit≤ tt, lit≤ tt));
+      req-rn-cover = (refl, (lit≤ tt, lit≤ tt));
+      read = (refl, (lit≤ tt, lit≤ tt));
       read-right = record { within = (lit< tt, lit≤ tt); right = λ j l. inl three };
-      write = (record { heard = refl; right = refl }, (lit≤ tt, lit≤ tt));
+      write = (refl, (lit≤ tt, lit≤ tt));
       write-right = writable 3 1 0xABCD (lit< tt) (lit≤ tt) refl refl (lit≤ tt);
-      kill-first = (record { heard = refl; right = refl }, (lit≤ tt, lit≤ tt));
+      kill-first = (refl, (lit≤ tt, lit≤ tt));
       kill-password = λ e. omega (arith, e);
-      kill-second = (record { heard = refl; right = refl }, (lit≤ tt, lit≤ tt));
-      lock = (record { heard = refl; right = refl }, (lit≤ tt, lit≤ tt));
+      kill-second = (refl, (lit≤ tt, lit≤ tt));
+      lock = (refl, (lit≤ tt, lit≤ tt));
       lock-right = lockable refl;
-      access-half = (record { heard = refl; right = refl }, (lit≤ tt, lit≤ tt));
-      block-write = (record { heard = refl; right = refl }, (lit≤ tt, lit≤ tt));
+      access-half = (refl, (lit≤ tt, lit≤ tt));
+      block-write = (refl, (lit≤ tt, lit≤ tt));
       block-write-right = writable 2 2 0x1111 (lit< tt) (lit≤ tt) refl refl (lit≤ tt);
-      block-erase = (record { heard = refl; right = refl }, (lit≤ tt, lit≤ tt));
+      block-erase = (refl, (lit≤ tt, lit≤ tt));
       block-erase-right = writable 2 2 0 (lit< tt) (lit≤ tt) refl refl (lit≤ tt);
-      permalock-read = (record { heard = refl; right = refl }, (lit≤ tt, lit≤ tt));
+      permalock-read = (refl, (lit≤ tt, lit≤ tt));
       permalock-read-right = lit≤ tt;
-      permalocks = (record { heard = refl; right = refl }, (lit≤ tt, lit≤ tt));
+      permalocks = (refl, (lit≤ tt, lit≤ tt));
       permalocks-right = perma-lockable refl refl refl refl;
-      nak = refl;
+      nak = (refl, (lit≤ tt, lit≤ tt));
       engine = (lit≤ tt, refl);
       engine-words = port-open refl refl refl refl;
       radio-done = record { bytes = worked-bytes; idle = record { sound = refl; nothing = refl }; some = lit≤ tt; done = refl; words = refl };

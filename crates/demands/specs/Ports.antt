@@ -17,9 +17,9 @@ use Rattle.states.specs.declared.State.the-variants as state
 use Rattle.tag.specs.declared.Session.{Session}
 use Rattle.tag.specs.declared.Outcome.{Outcome}
 use Rattle.tag.specs.Session.{offSession, on, newSession}
-use Rattle.tag.specs.Result.{Result, result, gives}
-use Rattle.tag.specs.Table.{answered}
+use Rattle.tag.specs.Result.{Result, result, firstOf, leaves}
 use Rattle.tag.specs.Port.{writtenWords, askOf, releaseOf, registerOf, readOf, writeOf}
+use Rattle.tag.specs.Steps.{gives}
 
 -- a session that holds the port, with its register's two bits
 abbrev pub holding : State → Bool → Bool → Session
@@ -45,27 +45,37 @@ p12Stores =
 
 pub record Writes : Type 0 where
   pub p12-stores : changeStores 45 (writtenWords workedLayout locked 2 fourWords 4) ≡ p12Stores
-  pub p12 : writeOf (holding state.Arbitrate false false) locked 2 fourWords 8
+  pub p12 : firstOf (writeOf changeStores (holding state.Arbitrate false false) locked 2 fourWords 8)
       ≡ gives 0 (holding state.Arbitrate true false) 0 8 (after locked p12Stores) []
-  pub power-7 : writeOf (holding state.Arbitrate false false) locked 2 fourWords 7
+  pub power-7 : firstOf (writeOf changeStores (holding state.Arbitrate false false) locked 2 fourWords 7)
       ≡ gives 11 offSession 0 7 (after locked (take 7 p12Stores)) []
-  pub killed : writeOf (holding state.Killed false false) locked 2 fourWords 8 ≡ gives 0 (holding state.Killed false true) 0 0 locked []
-  pub password : writeOf (holding state.Arbitrate false false) (withWord worked 21 1) 2 fourWords 14
+  pub killed : firstOf (writeOf changeStores (holding state.Killed false false) locked 2 fourWords 8)
+      ≡ gives 0 (holding state.Killed false true) 0 0 locked []
+  pub password : firstOf (writeOf changeStores (holding state.Arbitrate false false) (withWord worked 21 1) 2 fourWords 14)
       ≡ gives 0 (holding state.Arbitrate true false) 0 0 (withWord worked 21 1) []
-  pub user-10 : writeOf (holding state.Arbitrate false false) (withWord worked 16 0x002) 2 fourWords 14
+  pub user-10 : firstOf (writeOf changeStores (holding state.Arbitrate false false) (withWord worked 16 0x002) 2 fourWords 14)
       ≡ gives 0 (holding state.Arbitrate true false) 0 0 (withWord worked 16 0x002) []
   -- all words written: no bit is set, and set bits last
-  pub clean : writeOf (holding state.Arbitrate false false) worked 2 fourWords 14 .session ≡ holding state.Arbitrate false false
-  pub lasts : writeOf (holding state.Arbitrate true false) worked 2 fourWords 14 .session ≡ holding state.Arbitrate true false
-  pub lasts-killed : writeOf (holding state.Arbitrate false true) locked 2 fourWords 14 .session ≡ holding state.Arbitrate true true
-  pub lasts-dead : writeOf (holding state.Killed true false) locked 2 fourWords 8 .session ≡ holding state.Killed true true
+  pub clean : firstOf (writeOf changeStores (holding state.Arbitrate false false) worked 2 fourWords 14) .session
+      ≡ holding state.Arbitrate false false
+  pub lasts : firstOf (writeOf changeStores (holding state.Arbitrate true false) worked 2 fourWords 14) .session
+      ≡ holding state.Arbitrate true false
+  pub lasts-killed : firstOf (writeOf changeStores (holding state.Arbitrate false true) locked 2 fourWords 14) .session
+      ≡ holding state.Arbitrate true true
+  pub lasts-dead : firstOf (writeOf changeStores (holding state.Killed true false) locked 2 fourWords 8) .session
+      ≡ holding state.Killed true true
   -- USER at 01 is open to the port
-  pub user-01 : writeOf (holding state.Arbitrate false false) (withWord worked 16 0x001) 2 fourWords 14 .stores ≡ 14
-  pub nothing : writeOf (holding state.Arbitrate false false) locked 2 [] 8 ≡ gives 13 (holding state.Arbitrate false false) 0 0 locked []
-  pub odd : writeOf (holding state.Arbitrate false false) locked 2 (1 ∷ 2 ∷ 3 ∷ []) 8 ≡ gives 13 (holding state.Arbitrate false false) 0 0 locked []
-  pub last : writeOf (holding state.Arbitrate false false) worked 12 fourWords 13 ≡ gives 11 offSession 0 13 (after worked (take 13 (changeStores 45 (writtenWords workedLayout worked 12 fourWords 4)))) []
-  pub past : writeOf (holding state.Arbitrate false false) locked 13 fourWords 14 ≡ gives 13 (holding state.Arbitrate false false) 0 0 locked []
-  pub free : writeOf (newSession state.Arbitrate) locked 2 fourWords 8 ≡ gives 6 (newSession state.Arbitrate) 0 0 locked []
+  pub user-01 : firstOf (writeOf changeStores (holding state.Arbitrate false false) (withWord worked 16 0x001) 2 fourWords 14) .stores ≡ 14
+  pub nothing : firstOf (writeOf changeStores (holding state.Arbitrate false false) locked 2 [] 8)
+      ≡ gives 13 (holding state.Arbitrate false false) 0 0 locked []
+  pub odd : firstOf (writeOf changeStores (holding state.Arbitrate false false) locked 2 (1 ∷ 2 ∷ 3 ∷ []) 8)
+      ≡ gives 13 (holding state.Arbitrate false false) 0 0 locked []
+  pub last : firstOf (writeOf changeStores (holding state.Arbitrate false false) worked 12 fourWords 13)
+      ≡ gives 11 offSession 0 13 (after worked (take 13 (changeStores 45 (writtenWords workedLayout worked 12 fourWords 4)))) []
+  pub past : firstOf (writeOf changeStores (holding state.Arbitrate false false) locked 13 fourWords 14)
+      ≡ gives 13 (holding state.Arbitrate false false) 0 0 locked []
+  pub free : firstOf (writeOf changeStores (newSession state.Arbitrate) locked 2 fourWords 8)
+      ≡ gives 6 (newSession state.Arbitrate) 0 0 locked []
 
 pub writes : Writes
 unfolding writeOf layoutOf headerGood blocksIn contentGood rulesHold worked wordAt withWord
@@ -90,14 +100,17 @@ writes =
     }
 
 pub record Reads : Type 0 where
-  pub shows : readOf (holding state.Arbitrate false false) worked 2 2 (replicate 5 0xFF)
+  pub shows : firstOf (readOf (holding state.Arbitrate false false) worked 2 2 (replicate 5 0xFF))
       ≡ gives 0 (holding state.Arbitrate false false) 32 0 worked (0 ∷ 6 ∷ 0 ∷ 10 ∷ 0xFF ∷ [])
-  pub killed : readOf (holding state.Killed false false) worked 2 2 (replicate 5 0xFF)
+  pub killed : firstOf (readOf (holding state.Killed false false) worked 2 2 (replicate 5 0xFF))
       ≡ gives 0 (holding state.Killed false true) 32 0 worked (0 ∷ 0 ∷ 0 ∷ 0 ∷ 0xFF ∷ [])
-  pub nothing : readOf (holding state.Arbitrate false false) worked 2 0 [] ≡ gives 13 (holding state.Arbitrate false false) 0 0 worked []
-  pub past : readOf (holding state.Arbitrate false false) worked 15 2 [] ≡ gives 13 (holding state.Arbitrate false false) 0 0 worked []
-  pub over-255 : readOf (holding state.Arbitrate false false) worked 0 256 [] ≡ gives 13 (holding state.Arbitrate false false) 0 0 worked []
-  pub no-room : readOf (holding state.Arbitrate false false) worked 2 2 (replicate 3 0xFF)
+  pub nothing : firstOf (readOf (holding state.Arbitrate false false) worked 2 0 [])
+      ≡ gives 13 (holding state.Arbitrate false false) 0 0 worked []
+  pub past : firstOf (readOf (holding state.Arbitrate false false) worked 15 2 [])
+      ≡ gives 13 (holding state.Arbitrate false false) 0 0 worked []
+  pub over-255 : firstOf (readOf (holding state.Arbitrate false false) worked 0 256 [])
+      ≡ gives 13 (holding state.Arbitrate false false) 0 0 worked []
+  pub no-room : firstOf (readOf (holding state.Arbitrate false false) worked 2 2 (replicate 3 0xFF))
       ≡ gives 4 (holding state.Arbitrate false false) 0 0 worked (replicate 3 0xFF)
 
 pub reads : Reads
@@ -106,16 +119,16 @@ reads = record { shows = refl; killed = refl; nothing = refl; past = refl; over-
 
 -- the register after P12: 2, then 0; it is told only to the holder
 pub record Registers : Type 0 where
-  pub once : registerOf (holding state.Arbitrate true false)
+  pub once : firstOf (registerOf (holding state.Arbitrate true false))
       ≡ record { number = 0; session = holding state.Arbitrate false false; reply = 0; stores = 0; value = 2; image = []; room = [] }
-  pub again : registerOf (holding state.Arbitrate false false)
+  pub again : firstOf (registerOf (holding state.Arbitrate false false))
       ≡ record { number = 0; session = holding state.Arbitrate false false; reply = 0; stores = 0; value = 0; image = []; room = [] }
-  pub both : registerOf (holding state.Killed true true) .value ≡ 3
-  pub free : registerOf (newSession state.Arbitrate) ≡ answered 6 (newSession state.Arbitrate)
-  pub granted : askOf (newSession state.Arbitrate) ≡ answered 0 (holding state.Arbitrate false false)
-  pub held : askOf (holding state.Arbitrate true false) ≡ answered 6 (holding state.Arbitrate true false)
-  pub released : releaseOf (holding state.Arbitrate false false) ≡ answered 0 (newSession state.Arbitrate)
-  pub off : askOf offSession ≡ answered 5 offSession
+  pub both : firstOf (registerOf (holding state.Killed true true)) .value ≡ 3
+  pub free : firstOf (registerOf (newSession state.Arbitrate)) ≡ leaves 6 (newSession state.Arbitrate) [] []
+  pub granted : firstOf (askOf (newSession state.Arbitrate)) ≡ leaves 0 (holding state.Arbitrate false false) [] []
+  pub held : firstOf (askOf (holding state.Arbitrate true false)) ≡ leaves 6 (holding state.Arbitrate true false) [] []
+  pub released : firstOf (releaseOf (holding state.Arbitrate false false)) ≡ leaves 0 (newSession state.Arbitrate) [] []
+  pub off : firstOf (askOf offSession) ≡ leaves 5 offSession [] []
 
 pub registers : Registers
 unfolding registerOf askOf releaseOf
@@ -123,9 +136,11 @@ registers =
     record { once = refl; again = refl; both = refl; free = refl; granted = refl; held = refl; released = refl; off = refl }
 
 -- a write of USER 2 to 5 that is refused whole for its locked words, whatever it answers; and one that says 5 stores were made
-pub never-refused : (o : Outcome) → result o locked [] ≡ writeOf (holding state.Arbitrate false false) locked 2 fourWords 8 → ⊥
+pub never-refused : (o : Outcome) → result o locked []
+    ≡ firstOf (writeOf changeStores (holding state.Arbitrate false false) locked 2 fourWords 8) → ⊥
 unfolding worked wordAt withWord
 never-refused o e = let z : _≡_ {A = ℕ} 24 0x5566 = ap (λ (r : Result). wordAt (r .image) 32) (e ∙ writes .p12) in omega arith
 
-pub never-five : (o : Outcome) (m : List ℕ) → o .stores ≡ 5 → result o m [] ≡ writeOf (holding state.Arbitrate false false) locked 2 fourWords 8 → ⊥
+pub never-five : (o : Outcome) (m : List ℕ) → o .stores ≡ 5 → result o m []
+    ≡ firstOf (writeOf changeStores (holding state.Arbitrate false false) locked 2 fourWords 8) → ⊥
 never-five o m h e = let z : _≡_ {A = ℕ} 5 8 = sym h ∙ ap (λ (r : Result). r .stores) (e ∙ writes .p12) in omega arith

@@ -1,5 +1,6 @@
--- WHEN a call is refused (RULES 5), line by line in the rules' own terms: of any program A. Each line stands under the ones before it: an image that is good
--- with nothing pending, a port that is free or held as the call needs it, a frame that says an order with its CRC-16 right, a state that hears it. Assumes nothing.
+-- WHEN a call is refused (RULES 5), line by line in the rules' own terms: of any program A. Each line stands under the ones before it: an
+-- image that is good with nothing pending, a port that is free or held as the call needs it, a frame that says an order, a state that
+-- hears it. Assumes nothing.
 use Prim.Native.Nat.{ℕ, _+_, _-_, _*_, _%_, _≤_, _<_}
 use mathlib.Core.Path.{_≡_}
 use mathlib.Core.Logic.{_≢_, _⊎_}
@@ -14,9 +15,8 @@ use Rattle.image.specs.Content.{lockWord, lengthOf, permalock, countIn}
 use Rattle.image.specs.Check.{checkOf, refused, good}
 use Rattle.frames.specs.declared.Order.{Order}
 use Rattle.frames.specs.declared.Order.the-variants as order
-use Rattle.frames.specs.declared.Command.{Command}
 use Rattle.frames.specs.Message as heard
-use Rattle.frames.specs.Frames.{span, heardOf, checksumRight}
+use Rattle.frames.specs.Frames.{span, heardOf}
 use Rattle.replies.specs.declared.Reply.the-variants as reply
 use Rattle.replies.specs.Replies.{replyBits}
 use Rattle.replies.specs.Pack.{packed}
@@ -31,11 +31,11 @@ use Rattle.states.specs.declared.State.the-variants as state
 use Rattle.tag.specs.declared.Session.{Session}
 use Rattle.tag.specs.Session.{offSession, on}
 use Rattle.tag.specs.Result.{Result, leaves}
-use Rattle.states.specs.Commands.{accessWord, killWord}
+use Rattle.states.specs.Commands.{plainLink, accessWord, killWord}
 use Rattle.demands.specs.Calls.{Call, powerUp, admit, ask, release, register, read, write, Tag, Program, asked, Idle}
 use Rattle.demands.specs.Demands.{Storing, lasting}
 use Rattle.demands.specs.Facts.{MayRead, MayWrite, Within, Past, TakesPc, AllRight}
-use Rattle.demands.specs.Commands.{Air, hears, linked, link, Says, pcSent}
+use Rattle.demands.specs.Commands.{Air, answersTo, linked, link, Says, pcSent}
 
 -- everything as before
 abbrev pub stays : ℕ → Air → Session → Result
@@ -46,11 +46,11 @@ abbrev pub drops : Air → Register → Result
 drops a r = leaves 12 (on state.Arbitrate false r) (a .image) (a .room)
 
 -- the error reply of 41 bits; the cover number is used up
-abbrev pub errs : Air → Register → Bool → ℕ → Half → ℕ → Result
-errs a r secured h p e =
+abbrev pub errs : Air → Register → Bool → ℕ → ℕ → Result
+errs a r secured h e =
     record {
       number = 10;
-      session = on (linked secured (link h cover.Nothing p)) false r;
+      session = on (linked secured (plainLink h)) false r;
       reply = 41;
       stores = 0;
       value = 0;
@@ -58,12 +58,14 @@ errs a r secured h p e =
       room = packed (replyBits (a .image) (reply.Error e h)) (a .room);
     }
 
--- 3.13, 3.14, 3.17 and 3.20: what a command needs beside the handle: Secured, a cover number, a range of at least 1, an RFU byte 0
+-- a cover number is there
 abbrev pub Covered : Cover → Type 0
 Covered cover.Nothing = ⊥
 Covered (cover.Number n) = Unit {0}
 
+-- 3.14, 3.17 and 3.20: what a command needs beside the handle: Secured, a cover number, a range of at least 1, an RFU byte 0
 abbrev pub Needs : Bool → Cover → Order → Type 0
+Needs secured c order.Nak = Unit {0}
 Needs secured c order.ReqRn = Unit {0}
 Needs secured c (order.Read s) = Unit {0}
 Needs secured c (order.Write s w) = Covered c
@@ -75,14 +77,15 @@ Needs secured c (order.BlockErase s) = 1 ≤ s .count
 Needs secured c (order.ReadPermalock rfu s) = (secured ≡ true) × (rfu ≡ 0) × (1 ≤ s .count)
 Needs secured c (order.Permalock rfu s p) = (secured ≡ true) × (rfu ≡ 0) × (1 ≤ s .count)
 
--- 3.15: between the halves of a password any command is another but Req_RN and the one that brings the second half (NAK is no order)
+-- 3.15: between the halves of a password any command is another but NAK, Req_RN and the one that brings the second half
 abbrev pub Other : Half → Order → Type 0
 Other half.Nothing o = ⊥
-Other (half.Access up) o = (o ≢ order.ReqRn) × ((h : ℕ) → o ≢ order.Access h)
-Other (half.Kill up) o = (o ≢ order.ReqRn) × ((h : ℕ) → o ≢ order.Kill h)
+Other (half.Access up) o = (o ≢ order.Nak) × (o ≢ order.ReqRn) × ((h : ℕ) → o ≢ order.Access h)
+Other (half.Kill up) o = (o ≢ order.Nak) × (o ≢ order.ReqRn) × ((h : ℕ) → o ≢ order.Kill h)
 
 -- what a Write, BlockWrite or BlockErase brings for EPC word 1
 abbrev pub Brings : Air → Cover → Order → ℕ → ℕ → ℕ → ℕ → Type 0
+Brings a c order.Nak b p n pc = ⊥
 Brings a c order.ReqRn b p n pc = ⊥
 Brings a c (order.Read s) b p n pc = ⊥
 Brings a (cover.Number k) (order.Write s w) b p n pc = (s ≡ span b p 1) × (n ≡ 1) × (pc ≡ bitXor w k)
@@ -97,63 +100,68 @@ Brings a c (order.Permalock rfu s at) b p n pc = ⊥
 
 -- 1, 2, 3, 5 and 6: an image, or a session, that no frame is heard with
 pub record Unready (A : Program) (a : Air) : Type 0 where
-  pub bad-image : (s : Session) (n : ℕ) → checkOf (a .image) ≡ refused n → hears A a s ≡ stays n a s
-  pub off : (y : Layout) → checkOf (a .image) ≡ good y → hears A a offSession ≡ stays 5 a offSession
-  pub pends : (y : Layout) (s : Session) → checkOf (a .image) ≡ good y → countIn y (a .image) ≢ 0 → hears A a s ≡ stays 5 a s
-  pub held : (y : Layout) (st : State) (r : Register) → Idle y (a .image) → hears A a (on st true r) ≡ stays 6 a (on st true r)
+  pub bad-image : (s : Session) (n : ℕ) → checkOf (a .image) ≡ refused n → answersTo A a s ≡ stays n a s
+  pub off : (y : Layout) → checkOf (a .image) ≡ good y → answersTo A a offSession ≡ stays 5 a offSession
+  pub pends : (y : Layout) (s : Session) → checkOf (a .image) ≡ good y → countIn y (a .image) ≢ 0 → answersTo A a s ≡ stays 5 a s
+  pub held : (y : Layout) (st : State) (r : Register) → Idle y (a .image) → answersTo A a (on st true r) ≡ stays 6 a (on st true r)
 
 -- 7 and 8: a frame that is none, or has a wrong CRC-16
 pub record Unheard (A : Program) (a : Air) (st : State) (r : Register) : Type 0 where
-  pub malformed : (k : ℕ) → heardOf (a .frame) (a .bits) ≡ heard.refused k → hears A a (on st false r) ≡ stays 7 a (on st false r)
-  pub checksum : (c : Command) → heardOf (a .frame) (a .bits) ≡ heard.said c → checksumRight (a .frame) (a .bits) ≡ false
-      → hears A a (on st false r) ≡ stays 8 a (on st false r)
+  pub malformed : heardOf (a .frame) (a .bits) ≡ heard.refused 7 → answersTo A a (on st false r) ≡ stays 7 a (on st false r)
+  pub checksum : heardOf (a .frame) (a .bits) ≡ heard.refused 8 → answersTo A a (on st false r) ≡ stays 8 a (on st false r)
 
 -- 9: a command that the session is not in a state for
 pub record OutOfPlace (A : Program) (a : Air) (r : Register) : Type 0 where
-  pub arbitrate : (n : ℕ) (o : Order) → Says a n o → hears A a (on state.Arbitrate false r) ≡ stays 9 a (on state.Arbitrate false r)
-  pub killed : (n : ℕ) (o : Order) → Says a n o → hears A a (on state.Killed false r) ≡ stays 9 a (on state.Killed false r)
-  pub killed-nak : heardOf (a .frame) (a .bits) ≡ heard.nak → hears A a (on state.Killed false r) ≡ stays 9 a (on state.Killed false r)
-  -- another number than the admission's, or another command than Req_RN
-  pub admission : (m n : ℕ) (o : Order) → Says a n o → (n ≢ m) ⊎ (o ≢ order.ReqRn)
-      → hears A a (on (state.Acknowledged m) false r) ≡ stays 9 a (on (state.Acknowledged m) false r)
-  -- another number than the handle, or not what the command needs
-  pub handle : (secured : Bool) (h : ℕ) (c : Cover) (p : Half) (n : ℕ) (o : Order) → Says a n o → (n ≢ h) ⊎ (Needs secured c o → ⊥)
-      → hears A a (on (linked secured (link h c p)) false r) ≡ stays 9 a (on (linked secured (link h c p)) false r)
+  pub arbitrate : (n : ℕ) (o : Order) → Says a n o → o ≢ order.Nak → answersTo A a (on state.Arbitrate false r)
+      ≡ stays 9 a (on state.Arbitrate false r)
+  pub killed : (n : ℕ) (o : Order) → Says a n o → answersTo A a (on state.Killed false r) ≡ stays 9 a (on state.Killed false r)
+  -- any command but NAK, with another number than the admission's, or another one than Req_RN
+  pub admission : (m n : ℕ) (o : Order) → Says a n o → o ≢ order.Nak → (n ≢ m) ⊎ (o ≢ order.ReqRn)
+      → answersTo A a (on (state.Acknowledged m) false r) ≡ stays 9 a (on (state.Acknowledged m) false r)
+  -- any command but NAK, with another number than the handle, or without what it needs
+  pub handle : (secured : Bool) (h : ℕ) (c : Cover) (p : Half) (n : ℕ) (o : Order) → Says a n o → o ≢ order.Nak
+      → (n ≢ h) ⊎ (Needs secured c o → ⊥)
+      → answersTo A a (on (linked secured (link h c p)) false r) ≡ stays 9 a (on (linked secured (link h c p)) false r)
 
 -- 12: a password that is wrong, or whose halves are broken; c is the cover number
 pub record Dropped (A : Program) (y : Layout) (a : Air) (r : Register) : Type 0 where
   pub access : (secured : Bool) (h c up w : ℕ) → Says a h (order.Access w)
       → (up ≢ accessWord y (a .image) 0) ⊎ (bitXor w c ≢ accessWord y (a .image) 1)
-      → hears A a (on (linked secured (link h (cover.Number c) (half.Access up))) false r) ≡ drops a r
+      → answersTo A a (on (linked secured (link h (cover.Number c) (half.Access up))) false r) ≡ drops a r
   pub kill : (secured : Bool) (h c up w : ℕ) → Says a h (order.Kill w)
       → (up ≢ killWord y (a .image) 0) ⊎ (bitXor w c ≢ killWord y (a .image) 1)
-      → hears A a (on (linked secured (link h (cover.Number c) (half.Kill up))) false r) ≡ drops a r
+      → answersTo A a (on (linked secured (link h (cover.Number c) (half.Kill up))) false r) ≡ drops a r
   pub between : (secured : Bool) (h : ℕ) (c : Cover) (p : Half) (o : Order) → Says a h o → Needs secured c o → Other p o
-      → hears A a (on (linked secured (link h c p)) false r) ≡ drops a r
+      → answersTo A a (on (linked secured (link h c p)) false r) ≡ drops a r
 
 -- 10: an error code, no half waiting and room for the reply of 41 bits, 6 bytes
-pub record Errors (A : Program) (y : Layout) (a : Air) (r : Register) (secured : Bool) (h : ℕ) (c : Cover) : Type 0 where
-  -- Read
-  pub read-past : (b p n : ℕ) → Says a h (order.Read (span b p n)) → Past (bankOf y b .words) p n
-      → hears A a (on (linked secured (link h c half.Nothing)) false r) ≡ errs a r secured h half.Nothing 0x03
-  pub read-right : (b p n j : ℕ) → Says a h (order.Read (span b p n)) → Within (bankOf y b .words) p n
-      → (j < n) ⊎ ((n ≡ 0) × (p + j < bankOf y b .words)) → (MayRead y (a .image) secured b (p + j) → ⊥)
-      → hears A a (on (linked secured (link h c half.Nothing)) false r) ≡ errs a r secured h half.Nothing 0x04
-  -- the writing commands, in order: past the end, a word that lacks the right, a PC whose length doesn't fit, more words than W
-  pub write-past : (o : Order) (b p n pc : ℕ) → Says a h o → Brings a c o b p n pc → Past (bankOf y b .words) p n
-      → hears A a (on (linked secured (link h c half.Nothing)) false r) ≡ errs a r secured h half.Nothing 0x03
-  pub write-right : (o : Order) (b p n pc j : ℕ) → Says a h o → Brings a c o b p n pc → Within (bankOf y b .words) p n
-      → j < n → (MayWrite y (a .image) secured b (p + j) → ⊥)
-      → hears A a (on (linked secured (link h c half.Nothing)) false r) ≡ errs a r secured h half.Nothing 0x04
-  pub write-pc : (o : Order) (b p n pc : ℕ) → Says a h o → Brings a c o b p n pc → Within (bankOf y b .words) p n
-      → AllRight y (a .image) secured b p n → TakesPc b p n → y .epc .words < lengthOf pc + 2
-      → hears A a (on (linked secured (link h c half.Nothing)) false r) ≡ errs a r secured h half.Nothing 0x03
-  pub write-many : (o : Order) (b p n pc : ℕ) → Says a h o → Brings a c o b p n pc → Within (bankOf y b .words) p n
-      → AllRight y (a .image) secured b p n → (TakesPc b p n → lengthOf pc + 2 ≤ y .epc .words) → pairsIn y < n
-      → hears A a (on (linked secured (link h c half.Nothing)) false r) ≡ errs a r secured h half.Nothing 0x00
-  -- the first Kill with a zero kill password
-  pub kill-zero : (k w : ℕ) → c ≡ cover.Number k → Says a h (order.Kill w) → killWord y (a .image) 0 ≡ 0 → killWord y (a .image) 1 ≡ 0
-      → hears A a (on (linked secured (link h c half.Nothing)) false r) ≡ errs a r secured h half.Nothing 0x00
+module _ (A : Program) (y : Layout) (a : Air) (r : Register) (secured : Bool) (h : ℕ) (c : Cover) where
+  -- the tag with this handle and cover number, no half waiting, gives the error reply of this code
+  abbrev pub Gets : ℕ → Type 0
+  Gets code = answersTo A a (on (linked secured (link h c half.Nothing)) false r) ≡ errs a r secured h code
+
+  pub record Errors : Type 0 where
+    -- Read
+    pub read-past : (b p n : ℕ) → Says a h (order.Read (span b p n)) → Past (bankOf y b .words) p n
+        → Gets 0x03
+    pub read-right : (b p n j : ℕ) → Says a h (order.Read (span b p n)) → Within (bankOf y b .words) p n
+        → (j < n) ⊎ ((n ≡ 0) × (p + j < bankOf y b .words)) → (MayRead y (a .image) secured b (p + j) → ⊥)
+        → Gets 0x04
+    -- the writing commands, in order: past the end, a word that lacks the right, a PC whose length doesn't fit, more words than W
+    pub write-past : (o : Order) (b p n pc : ℕ) → Says a h o → Brings a c o b p n pc → Past (bankOf y b .words) p n
+        → Gets 0x03
+    pub write-right : (o : Order) (b p n pc j : ℕ) → Says a h o → Brings a c o b p n pc → Within (bankOf y b .words) p n
+        → j < n → (MayWrite y (a .image) secured b (p + j) → ⊥)
+        → Gets 0x04
+    pub write-pc : (o : Order) (b p n pc : ℕ) → Says a h o → Brings a c o b p n pc → Within (bankOf y b .words) p n
+        → AllRight y (a .image) secured b p n → TakesPc b p n → y .epc .words < lengthOf pc + 2
+        → Gets 0x03
+    pub write-many : (o : Order) (b p n pc : ℕ) → Says a h o → Brings a c o b p n pc → Within (bankOf y b .words) p n
+        → AllRight y (a .image) secured b p n → (TakesPc b p n → lengthOf pc + 2 ≤ y .epc .words) → pairsIn y < n
+        → Gets 0x00
+    -- the first Kill with a zero kill password
+    pub kill-zero : (k w : ℕ) → c ≡ cover.Number k → Says a h (order.Kill w) → killWord y (a .image) 0 ≡ 0 → killWord y (a .image) 1 ≡ 0
+        → Gets 0x00
 
 -- 10 for Lock and BlockPermalock, which work in Secured
 pub record Locks (A : Program) (y : Layout) (a : Air) (r : Register) (h : ℕ) (c : Cover) : Type 0 where
@@ -161,31 +169,32 @@ pub record Locks (A : Program) (y : Layout) (a : Air) (r : Register) (h : ℕ) (
   pub lock-pair : (mask action k : ℕ) → Says a h (order.Lock mask action) → k < 5
       → let old = lockWord y (a .image) in let new = lockedTo old mask action in
       permaBit old k ≡ 1 → (permaBit new k ≢ 1) ⊎ (pwdBit new k ≢ pwdBit old k)
-      → hears A a (on (state.Secured (link h c half.Nothing)) false r) ≡ errs a r true h half.Nothing 0x04
+      → Gets A y a r true h c 0x04
   -- Lock: with a USER mask bit set it would leave USER at 01 while a block is permalocked
   pub lock-user : (mask action b : ℕ) → Says a h (order.Lock mask action) → mask % 4 ≢ 0
       → let new = lockedTo (lockWord y (a .image)) mask action in
       pwdBit new 4 ≡ 0 → permaBit new 4 ≡ 1 → b < blocksIn y → permalock y (a .image) b ≢ 0
-      → hears A a (on (state.Secured (link h c half.Nothing)) false r) ≡ errs a r true h half.Nothing 0x04
+      → Gets A y a r true h c 0x04
   -- BlockPermalock that reads: another bank than USER, or a range past PERMA
   pub perma-read : (b p n : ℕ) → Says a h (order.ReadPermalock 0 (span b p n)) → 1 ≤ n → (b ≢ 3) ⊎ (y .perma .words < p + n)
-      → hears A a (on (state.Secured (link h c half.Nothing)) false r) ≡ errs a r true h half.Nothing 0x03
+      → Gets A y a r true h c 0x03
   -- one that locks: the same; a mask bit of a block that doesn't exist; USER at 01
   pub perma-past : (b p n at : ℕ) → Says a h (order.Permalock 0 (span b p n) at) → 1 ≤ n → (b ≢ 3) ⊎ (y .perma .words < p + n)
-      → hears A a (on (state.Secured (link h c half.Nothing)) false r) ≡ errs a r true h half.Nothing 0x03
+      → Gets A y a r true h c 0x03
   pub perma-mask : (p n at k : ℕ) → Says a h (order.Permalock 0 (span 3 p n) at) → 1 ≤ n → p + n ≤ y .perma .words
       → k < 16 * n → bitAt (a .frame) (at + k) ≢ 0 → blocksIn y ≤ 16 * p + k
-      → hears A a (on (state.Secured (link h c half.Nothing)) false r) ≡ errs a r true h half.Nothing 0x03
+      → Gets A y a r true h c 0x03
   pub perma-user : (p n at : ℕ) → Says a h (order.Permalock 0 (span 3 p n) at) → 1 ≤ n → p + n ≤ y .perma .words
       → ((k : ℕ) → k < 16 * n → bitAt (a .frame) (at + k) ≢ 0 → 16 * p + k < blocksIn y)
       → pwdBit (lockWord y (a .image)) 4 ≡ 0 → permaBit (lockWord y (a .image)) 4 ≡ 1
-      → hears A a (on (state.Secured (link h c half.Nothing)) false r) ≡ errs a r true h half.Nothing 0x04
+      → Gets A y a r true h c 0x04
 
 -- 5, 6 and 9 of calls without an image, of a tag with any
 pub record NoImageRefused (A : Program) (m : List ℕ) : Type 0 where
   pub admit-off : (n : ℕ) → asked A offSession m (admit n) ≡ leaves 5 offSession [] []
   pub admit-held : (st : State) (r : Register) (n : ℕ) → asked A (on st true r) m (admit n) ≡ leaves 6 (on st true r) [] []
-  pub admit-state : (st : State) (r : Register) (n : ℕ) → st ≢ state.Arbitrate → asked A (on st false r) m (admit n) ≡ leaves 9 (on st false r) [] []
+  pub admit-state : (st : State) (r : Register) (n : ℕ) → st ≢ state.Arbitrate → asked A (on st false r) m (admit n)
+      ≡ leaves 9 (on st false r) [] []
   pub ask-off : asked A offSession m ask ≡ leaves 5 offSession [] []
   pub ask-held : (st : State) (r : Register) → asked A (on st true r) m ask ≡ leaves 6 (on st true r) [] []
   pub ask-linked : (secured : Bool) (h : ℕ) (c : Cover) (p : Half) (r : Register)
@@ -208,7 +217,8 @@ BadCount y at n = (n ≡ 0) ⊎ (255 < n) ⊎ (y .user .words < at + n)
 
 -- 13 and 4 of a read, 13 of a write, where the port is held
 pub record PortRefused (A : Program) (y : Layout) (m : List ℕ) (st : State) (r : Register) : Type 0 where
-  pub read-count : (at n : ℕ) (room : List ℕ) → BadCount y at n → asked A (on st true r) m (read at n room) ≡ leaves 13 (on st true r) m room
+  pub read-count : (at n : ℕ) (room : List ℕ) → BadCount y at n → asked A (on st true r) m (read at n room)
+      ≡ leaves 13 (on st true r) m room
   pub read-room : (at n : ℕ) (room : List ℕ) → 1 ≤ n → n ≤ 255 → at + n ≤ y .user .words → length room < 2 * n
       → asked A (on st true r) m (read at n room) ≡ leaves 4 (on st true r) m room
   pub write-odd : (at : ℕ) (d : List ℕ) (s : ℕ) → length d % 2 ≢ 0 → asked A (on st true r) m (write at d s) ≡ leaves 13 (on st true r) m []
@@ -221,11 +231,11 @@ abbrev pub given : List ℕ → ℕ → Air → Air
 given room power a = record { image = a .image; frame = a .frame; bits = a .bits; fresh = a .fresh; room = room; power = power }
 
 pub record TooLittle (A : Program) : Type 0 where
-  pub room : (a : Air) (s : Session) (other : List ℕ) (enough : ℕ) → let r = hears A (given other enough a) s in
-      (r .number ≡ 0) ⊎ (r .number ≡ 10) → 8 * length (a .room) < r .reply → hears A a s ≡ stays 4 a s
+  pub room : (a : Air) (s : Session) (other : List ℕ) (enough : ℕ) → let r = answersTo A (given other enough a) s in
+      (r .number ≡ 0) ⊎ (r .number ≡ 10) → 8 * length (a .room) < r .reply → answersTo A a s ≡ stays 4 a s
   pub power : (y : Layout) (t : Tag) (c : Storing) (s enough : ℕ) → checkOf (t .image) ≡ good y → let r = A t (lasting c enough) in
       r .number ≡ 0 → s < r .stores → A t (lasting c s) .number ≡ 11
-  pub start : (y : Layout) (m : List ℕ) (v : Session) (s enough : ℕ) → checkOf m ≡ good y → let r = asked A v m (powerUp enough) in
+  pub power-up : (y : Layout) (m : List ℕ) (v : Session) (s enough : ℕ) → checkOf m ≡ good y → let r = asked A v m (powerUp enough) in
       r .number ≡ 0 → s < r .stores → asked A v m (powerUp s) .number ≡ 11
 
 pub record Refusals (A : Program) : Type 0 where
@@ -237,7 +247,7 @@ pub record Refusals (A : Program) : Type 0 where
       → Errors A y a r secured h c
   pub locks : (y : Layout) (a : Air) (r : Register) (h : ℕ) (c : Cover) → Idle y (a .image) → 6 ≤ length (a .room) → Locks A y a r h c
   pub power-up : (m : List ℕ) (s : Session) (n u : ℕ) → checkOf m ≡ refused n → asked A s m (powerUp u) ≡ leaves n offSession m []
-  pub alone : (m : List ℕ) → NoImageRefused A m
+  pub no-image : (m : List ℕ) → NoImageRefused A m
   pub reads : (m : List ℕ) (at n : ℕ) (room : List ℕ) → TransferRefused A m (read at n room) room
   pub writes : (m : List ℕ) (at : ℕ) (d : List ℕ) (s : ℕ) → TransferRefused A m (write at d s) []
   pub port : (y : Layout) (m : List ℕ) (st : State) (r : Register) → Idle y m → PortRefused A y m st r

@@ -1,36 +1,46 @@
 -- What the terms of the demands come to where a definition stands behind them (RULES 1 to 4): each said once more from the rules, so that
 -- a definition which became another breaks a demand. Assumes nothing.
-use Prim.Native.Nat.{ℕ, _+_, _-_, _*_, _/_, _%_, _≤_, _<_}
+use Prim.Native.Nat.{ℕ, suc, _+_, _-_, _*_, _/_, _%_, _^_, _≤_, _<_}
 use mathlib.Core.Path.{_≡_}
-use mathlib.Core.Logic.{_⊎_}
-use mathlib.Core.Bool.{Bool, true, false, cond}
+use mathlib.Core.Bool.{Bool, false, cond}
 use mathlib.Core.List.{List, [], _∷_, _++_}
-use lib.ListN.{getD, length}
+use lib.Bits.{bitXor}
+use lib.ListN.{getD, length, set}
 use Rattle.bits.specs.Words.{wordAt, Store, store, after}
-use Rattle.bits.specs.Bits.{bitsOf, fieldAt, bitsFrom, wordsBits}
+use Rattle.bits.specs.Bits.{bitAt, fieldAt, bitsOf, wordsBits}
 use Rattle.crc.specs.Crc.{crcOf}
 use Rattle.image.specs.declared.Layout.{Layout}
 use Rattle.image.specs.declared.Section.{Section}
 use Rattle.image.specs.Layout.{layoutOf, blocksIn, pairsIn}
-use Rattle.image.specs.Content.{lockWord, killedWord, lengthOf, pcWord, permalock, countIn, pending, mayGo}
-use Rattle.frames.specs.Frames.{checksumRight}
+use Rattle.image.specs.Content.{lockWord, killedWord, lengthOf, pcWord, permalock, countIn, pending}
 use Rattle.replies.specs.declared.Reply.the-variants as reply
 use Rattle.replies.specs.Replies.{replyBits}
 use Rattle.replies.specs.Pack.{packed}
-use Rattle.rights.specs.Rights.{bankOf, pwdBit, permaBit, lockedTo}
+use Rattle.rights.specs.Rights.{bankOf, pwdBit, permaBit, lockedTo, faultNumber}
 use Rattle.states.specs.Commands.{killWord, accessWord}
 use Rattle.states.specs.declared.State.{State}
 use Rattle.stores.specs.Stores.{staged, changeStores, epcCrc, powerStores}
 use Rattle.tag.specs.declared.Register.{Register}
 use Rattle.tag.specs.declared.Power.the-variants as power
+use Rattle.rights.specs.declared.Fault.the-variants as fault
 use Rattle.tag.specs.Session.{offSession, on, clear}
 use Rattle.tag.specs.Port.{numberIn}
-use Rattle.demands.specs.Facts.{bitIn, Masked}
+use Rattle.demands.specs.Facts.{bitIn, LockedBy}
 use Rattle.demands.specs.Fields.{Fields}
+use Rattle.demands.specs.Images.{Images}
+use Rattle.tag.specs.Result.{leaves}
+use Rattle.tag.specs.Steps.{gives}
+use Rattle.tag.specs.declared.Session.{Session}
+use Rattle.bits.specs.Below.{below}
 
 -- bits with the CRC-16 over all of them behind them
 abbrev pub sealed : List ℕ → List ℕ
 sealed bs = bs ++ bitsOf 16 (crcOf bs)
+
+-- a register of 16 bits after bits were shifted in behind it, the generator added where the bit that left it differs from the next one
+abbrev pub divided : ℕ → List ℕ → ℕ
+divided r [] = r
+divided r (b ∷ bs) = divided (bitXor (r * 2 % 65536) (bitXor (r / 32768) b * 0x1021)) bs
 
 -- the image m of the layout y
 pub record Words (y : Layout) (m : List ℕ) : Type 0 where
@@ -43,10 +53,10 @@ pub record Words (y : Layout) (m : List ℕ) : Type 0 where
   -- PERMA has a bit for each block, the first highest; WORK is the count and the pairs, offset before value
   pub perma : (b : ℕ) → permalock y m b ≡ bitIn (wordAt m (y .perma .at + b / 16)) (15 - b % 16)
   pub count : countIn y m ≡ wordAt m (y .work .at)
-  pub pairs : countIn y m ≡ 2
-      → let w = y .work .at in pending y m ≡ store (wordAt m (w + 1)) (wordAt m (w + 2)) ∷ store (wordAt m (w + 3)) (wordAt m (w + 4)) ∷ []
+  pub pairs : pending y m ≡ below (λ j. let w = y .work .at + 1 + 2 * j in store (wordAt m w) (wordAt m (w + 1))) (countIn y m)
   -- power-up: nothing pending, then only the CRC-16; else the pending words in order, the count 0, and the CRC-16
-  pub settled : countIn y m ≡ 0 → powerStores y m ≡ store (y .epc .at) (crcOf (wordsBits m (y .epc .at + 1) (lengthOf (pcWord y m) + 1))) ∷ []
+  pub settled : countIn y m ≡ 0 → powerStores y m
+      ≡ store (y .epc .at) (crcOf (wordsBits m (y .epc .at + 1) (lengthOf (pcWord y m) + 1))) ∷ []
   pub pends : (s : Store) (ss : List Store) → pending y m ≡ s ∷ ss
       → let settling = (s ∷ ss) ++ (store (y .work .at) 0 ∷ []) in
       powerStores y m ≡ settling ++ (store (y .epc .at) (epcCrc y (after m settling)) ∷ [])
@@ -64,12 +74,9 @@ pub record Bits (m : List ℕ) : Type 0 where
       ≡ (128 * b + 64 * c + 32 * d + 16 * e + 8 * f + 4 * g + 2 * h + i) ∷ packed bs room
   pub last : (b x : ℕ) (room : List ℕ) → packed (b ∷ []) (x ∷ room) ≡ 128 * b ∷ room
 
--- the section of n words from word o on; and a word in a section
+-- the section of n words from word o on
 abbrev pub section : ℕ → ℕ → Section
 section o n = record { at = o; words = n }
-
-abbrev pub In : Section → ℕ → Type 0
-In s o = (s .at ≤ o) × (o < s .at + s .words)
 
 -- the header: the block size, then offset and count of each section
 pub record Headed (m : List ℕ) (y : Layout) : Type 0 where
@@ -83,18 +90,27 @@ pub record Headed (m : List ℕ) (y : Layout) : Type 0 where
   pub work : y .work ≡ section (wordAt m 14) (wordAt m 15)
 
 pub record Terms : Type 0 where
-  -- words have their high byte first
+  -- words have their high byte first; fields and bytes their first bit highest
   pub word : (m : List ℕ) (i : ℕ) → wordAt m i ≡ 256 * getD m (2 * i) 0 + getD m (2 * i + 1) 0
+  pub stored : (m : List ℕ) (i v : ℕ) (ss : List Store) → after m (store i v ∷ ss)
+      ≡ after (set (set m (2 * i) (v / 256)) (2 * i + 1) (v % 256)) ss
+  pub stored-all : (m : List ℕ) → after m [] ≡ m
+  pub bit : (m : List ℕ) (i : ℕ) → bitAt m i ≡ bitIn (getD m (i / 8) 0) (7 - i % 8)
+  pub field : (m : List ℕ) (i n t : ℕ) → t < n → bitIn (fieldAt m i n) t ≡ bitAt m (i + (n - 1 - t))
+  pub small : (m : List ℕ) (i n : ℕ) → fieldAt m i n < 2 ^ n
+  pub number : (n v : ℕ) → bitsOf (suc n) v ≡ bitIn v n ∷ bitsOf n v
+  pub number-all : (v : ℕ) → bitsOf 0 v ≡ []
+  pub row : (m : List ℕ) (i k : ℕ) → wordsBits m i (suc k) ≡ wordsBits m i k ++ bitsOf 16 (wordAt m (i + k))
+  pub row-none : (m : List ℕ) (i : ℕ) → wordsBits m i 0 ≡ []
+  pub counted : (f : ℕ → Store) (n : ℕ) → below f (suc n) ≡ below f n ++ (f n ∷ [])
+  pub counted-none : (f : ℕ → Store) → below f 0 ≡ []
+  -- the CRC-16: the complement of what is left of the bits behind FFFFh, divided by x^16 + x^12 + x^5 + 1
+  pub crc : (bs : List ℕ) → crcOf bs ≡ 0xFFFF - divided 0xFFFF bs
   pub header : (m : List ℕ) → Headed m (layoutOf m)
-  -- pending values go to these sections and no other
-  pub goes : (y : Layout) (o : ℕ) → mayGo y o ≡ true
-      → In (y .status) o ⊎ In (y .reserved) o ⊎ In (y .epc) o ⊎ In (y .user) o ⊎ In (y .perma) o
+  pub images : Images
   pub words : (y : Layout) (m : List ℕ) → Words y m
   pub bits : (m : List ℕ) → Bits m
   pub fields : Fields
-  -- a frame's last 16 bits are the CRC-16 of those before them
-  pub checksum : (f : List ℕ) (n : ℕ) → let sum = crcOf (bitsFrom f 0 (n - 16)) in
-      (checksumRight f n ≡ true → fieldAt f (n - 16) 16 ≡ sum) × (fieldAt f (n - 16) 16 ≡ sum → checksumRight f n ≡ true)
   pub banks : (y : Layout) → (bankOf y 0 ≡ y .reserved) × (bankOf y 1 ≡ y .epc) × (bankOf y 2 ≡ y .tid) × (bankOf y 3 ≡ y .user)
   -- a block exists where a word of USER begins it, short as it may be
   pub blocks : (y : Layout) (b : ℕ) → 1 ≤ y .block
@@ -103,7 +119,9 @@ pub record Terms : Type 0 where
   pub pc-length : (pc : ℕ) → lengthOf pc ≡ pc / 2048
   -- pair k of the lock word, pwd before permalock, from the top of its ten bits; and the lock word after a Lock
   pub pairs : (lock k : ℕ) → (pwdBit lock k ≡ bitIn lock (9 - 2 * k)) × (permaBit lock k ≡ bitIn lock (8 - 2 * k))
-  pub locked : (old mask action : ℕ) → Masked old mask action (lockedTo old mask action)
+  pub locked : (old mask action : ℕ) → LockedBy old mask action (lockedTo old mask action)
+  -- the error codes
+  pub faults : (faultNumber fault.Other ≡ 0x00) × (faultNumber fault.PastEnd ≡ 0x03) × (faultNumber fault.NoRight ≡ 0x04)
   -- a change: each word's pair, offset before value; the count, the words, the count 0; nothing where there is no word
   pub unchanged : (w : ℕ) → changeStores w [] ≡ []
   pub change : (w : ℕ) (s : Store) (ss : List Store)
@@ -114,4 +132,10 @@ pub record Terms : Type 0 where
   pub cleared : clear ≡ record { unwritten = false; killed = false }
   -- a session is Off, or it is under power with a state, the port held or free, and a register
   pub off : offSession ≡ record { power = power.Off }
-  pub under : (st : State) (held : Bool) (r : Register) → on st held r ≡ record { power = power.On (record { state = st; held = held; register = r }) }
+  pub under : (st : State) (held : Bool) (r : Register) → on st held r
+      ≡ record { power = power.On (record { state = st; held = held; register = r }) }
+  -- what an answer leaves: without reply and store, and with a reply of k bits and j stores
+  pub leaving : (n : ℕ) (s : Session) (m room : List ℕ)
+      → leaves n s m room ≡ record { number = n; session = s; reply = 0; stores = 0; value = 0; image = m; room = room }
+  pub giving : (n : ℕ) (s : Session) (k j : ℕ) (m room : List ℕ)
+      → gives n s k j m room ≡ record { number = n; session = s; reply = k; stores = j; value = 0; image = m; room = room }

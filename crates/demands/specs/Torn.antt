@@ -1,4 +1,5 @@
--- Cuts between the two bytes of a word on the worked image, computed (RULES 6.4), and rules of what decides that are wrong. Assumes nothing.
+-- Cuts between the two bytes of a word on the worked image, computed (RULES 6.4), and rules of what decides that are wrong. Assumes
+-- nothing.
 use Prim.Native.Nat.{ℕ, _+_, _*_, _≤_, _<_}
 use mathlib.Core.Path.{_≡_, refl, sym, _∙_, subst}
 use mathlib.Core.Bool.{cond}
@@ -25,6 +26,7 @@ use Rattle.demands.specs.Calls.{Tag, answerOf, torn}
 use Rattle.demands.specs.Demands.{Storing, byRadio, lasting, powerUps, SameOnce}
 use Rattle.demands.specs.Worked.{write3, secured}
 use Rattle.demands.specs.Cases.{Case, p, Hold, outside}
+use Rattle.tag.specs.Result.{firstOf}
 
 -- P7's Write: its stores are (46, 31) (47, ABCDh) (45, 1) (31, ABCDh) (45, 0)
 abbrev pub tag : Tag
@@ -112,8 +114,8 @@ torn-cases = (refl, (refl, (refl, (refl, (refl, (refl, (refl, (refl, (refl, (ref
 
 -- word 31 after a whole power-up of four of them
 record Comes (m : List ℕ) (v : ℕ) : Type 0 where
-  starts : powerUpOf m 257 .number ≡ 0
-  shows : wordAt (powerUpOf m 257 .image) 31 ≡ v
+  starts : firstOf (powerUpOf m 257) .number ≡ 0
+  shows : wordAt (firstOf (powerUpOf m 257) .image) 31 ≡ v
 
 record Four : Type 0 where
   before : Comes worked 10

@@ -15,15 +15,16 @@ use Rattle.frames.specs.Frames.{heardOf, checksumRight}
 use Rattle.replies.specs.Pack.{filled, packed}
 use Rattle.replies.specs.Replies.{checked}
 use Rattle.rights.specs.Rights.{readCode, writeCode}
-use Rattle.stores.specs.Stores.{powerStores}
+use Rattle.stores.specs.Stores.{powerStores, changeStores}
 use Rattle.states.specs.declared.Cover.the-variants as cover
 use Rattle.states.specs.declared.Half.the-variants as half
 use Rattle.states.specs.declared.State.the-variants as state
 use Rattle.tag.specs.declared.Session.{Session}
 use Rattle.tag.specs.Session.{offSession, newSession}
-use Rattle.tag.specs.Result.{Result}
-use Rattle.tag.specs.Power.{poweredTo, powerUpOf}
-use Rattle.tag.specs.Table.{input, frameOf}
+use Rattle.tag.specs.Result.{Result, firstOf}
+use Rattle.tag.specs.Power.{powerUpOf}
+use Rattle.tag.specs.Table.{frameOf}
+use Rattle.tag.specs.Steps.{input, gives}
 
 -- Req_RN with the admission number BEEFh
 unfoldable pub reqRn : List ℕ
@@ -78,17 +79,17 @@ usedUp = newSession (state.Secured (record { handle = 0x1234; cover = cover.Noth
 
 -- a frame of n bits to that session, with a room of 12 bytes and power for s stores
 abbrev pub sent : List ℕ → List ℕ → ℕ → ℕ → Result
-sent m f n s = frameOf (input secured m f n 0x1234 (replicate 12 0xAA) s)
+sent m f n s = firstOf (frameOf changeStores (input secured m f n 0x1234 (replicate 12 0xAA) s))
 
 abbrev pub locked : List ℕ
 locked = withWord worked 16 0x0003
 
 pub record Powered : Type 0 where
-  pub idle : powerUpOf worked 1 ≡ poweredTo 0 (newSession state.Arbitrate) 1 worked
-  pub no-power : powerUpOf worked 0 ≡ poweredTo 11 offSession 0 worked
-  pub pending-cut : powerUpOf (pendingOne 17 1) 2 .number ≡ 11
-  pub pending-killed : powerUpOf (pendingOne 17 1) 3 .session ≡ newSession state.Killed
-  pub refused-first : powerUpOf (withWord worked 17 2) 0 ≡ poweredTo 3 offSession 0 (withWord worked 17 2)
+  pub idle : firstOf (powerUpOf worked 1) ≡ gives 0 (newSession state.Arbitrate) 0 1 worked []
+  pub no-power : firstOf (powerUpOf worked 0) ≡ gives 11 offSession 0 0 worked []
+  pub pending-cut : firstOf (powerUpOf (pendingOne 17 1) 2) .number ≡ 11
+  pub pending-killed : firstOf (powerUpOf (pendingOne 17 1) 3) .session ≡ newSession state.Killed
+  pub refused-first : firstOf (powerUpOf (withWord worked 17 2) 0) ≡ gives 3 offSession 0 0 (withWord worked 17 2) []
 
 pub powered : Powered
 unfolding powerUpOf powerStores layoutOf headerGood blocksIn contentGood rulesHold worked wordAt withWord wordsBits bitsOf crcOf
@@ -96,8 +97,8 @@ powered = record { idle = refl; no-power = refl; pending-cut = refl; pending-kil
 
 -- the handle, a write, a read, and what a cut and a small room do
 pub record Sent : Type 0 where
-  pub numbered : frameOf (input (newSession (state.Acknowledged 0xBEEF)) worked reqRn 40 0x1234 (replicate 12 0xAA) 0) .session ≡ usedUp
-  pub numbered-room : frameOf (input (newSession (state.Acknowledged 0xBEEF)) worked reqRn 40 0x1234 (replicate 12 0xAA) 0) .room ≡ 0x12 ∷ 0x34 ∷ 0xF1 ∷ 0x36 ∷ 0xAA ∷ 0xAA ∷ 0xAA ∷ 0xAA ∷ 0xAA ∷ 0xAA ∷ 0xAA ∷ 0xAA ∷ []
+  pub numbered : firstOf (frameOf changeStores (input (newSession (state.Acknowledged 0xBEEF)) worked reqRn 40 0x1234 (replicate 12 0xAA) 0)) .session ≡ usedUp
+  pub numbered-room : firstOf (frameOf changeStores (input (newSession (state.Acknowledged 0xBEEF)) worked reqRn 40 0x1234 (replicate 12 0xAA) 0)) .room ≡ 0x12 ∷ 0x34 ∷ 0xF1 ∷ 0x36 ∷ 0xAA ∷ 0xAA ∷ 0xAA ∷ 0xAA ∷ 0xAA ∷ 0xAA ∷ 0xAA ∷ 0xAA ∷ []
   pub written : sent worked write3 66 5 .number ≡ 0
   pub written-stores : sent worked write3 66 5 .stores ≡ 5
   pub written-session : sent worked write3 66 5 .session ≡ usedUp
@@ -107,7 +108,7 @@ pub record Sent : Type 0 where
   pub cut-stores : sent worked write3 66 2 .stores ≡ 2
   pub cut-session : sent worked write3 66 2 .session ≡ offSession
   pub cut-word : wordAt (sent worked write3 66 1 .image) 31 ≡ 10
-  pub no-room : frameOf (input secured worked write3 66 0 (replicate 4 0xAA) 5) .number ≡ 4
+  pub no-room : firstOf (frameOf changeStores (input secured worked write3 66 0 (replicate 4 0xAA) 5)) .number ≡ 4
   pub shows : sent worked readTwo 58 0 .room ≡ 0x00 ∷ 0x03 ∷ 0x00 ∷ 0x05 ∷ 0x09 ∷ 0x1A ∷ 0x7D ∷ 0x2E ∷ 0x80 ∷ 0xAA ∷ 0xAA ∷ 0xAA ∷ []
 
 pub sent-cases : Sent
@@ -128,8 +129,9 @@ pub limits : Limits
 unfolding frameOf layoutOf headerGood blocksIn contentGood rulesHold worked wordAt withWord wordsBits bitsOf crcOf fieldAt pointerAt heardOf checksumRight filled packed checked readCode writeCode write15 write16 pc2 pc3 block16 block17
 limits = record { user-15 = refl; user-16 = refl; l-2 = refl; l-3 = refl; words-16 = refl; words-17 = refl }
 
--- wrong answers that the promises rule out: a power-up that makes no store, a frame that is refused where it is done, and one whose stores are invented
-pub never-lazy : powerUpOf worked 1 ≡ poweredTo 0 (newSession state.Arbitrate) 0 worked → ⊥
+-- wrong answers that the promises rule out: a power-up that makes no store, a frame that is refused where it is done, and one whose
+-- stores are invented
+pub never-lazy : firstOf (powerUpOf worked 1) ≡ gives 0 (newSession state.Arbitrate) 0 0 worked [] → ⊥
 never-lazy e =
     let z : _≡_ {A = ℕ} 1 0 = sym (ap (λ (r : Result). r .stores) (powered .idle)) ∙ ap (λ (r : Result). r .stores) e in
     omega arith

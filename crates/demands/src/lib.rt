@@ -1,10 +1,19 @@
 // The buyer's demands, as theorems over the tag's promises (RULES D1 to D3). Its functions only tie the two: each is an operation of the tag, and promises what the
 // demands speak of (`Meets answerOf`). Were an operation's promise another one, the check would refuse it here.
+ghost use mathlib.Core.Path.{_≡_};
 ghost use mathlib.Core.List.{[]};
+ghost use Rattle.image.specs.Check.{meaning, checkOf};
 ghost use Rattle.demands.specs.Calls.{tagOf, answerOf, Meets};
 ghost use Rattle.demands.specs.Calls as call;
+use image::Fit;
 use tag::Outcome;
 use tag::Session;
+
+pub fn check(image: &[u8]) -> Fit
+    ensures { λ r. ⌜ meaning r ≡ checkOf (now (image .entry)) ⌝ }
+{
+    image::check(image)
+}
 
 pub fn power_up(session: Session, image: &mut [u8], s: usize) -> Outcome
     ensures { λ r. ⌜ Meets answerOf (tagOf session (now (image .entry))) (call.powerUp s) r (now (image .exit)) [] ⌝ }

@@ -17,15 +17,16 @@ abbrev pub meaning : Pointer → Read
 meaning pointer.Malformed = refused 7
 meaning (pointer.Whole v e) = whole v e
 
--- the pointer that begins at bit i of the n bits of m, after k groups with the value acc, with at most so many groups to come
-abbrev pub groups : List ℕ → ℕ → ℕ → ℕ → ℕ → ℕ → Read
-groups m n i k acc zero = refused 7
-groups m n i k acc (suc more) =
-    let here = i + 8 * k in
-    let g = fieldAt m here 8 in
-    cond (ltb n (here + 8)) (refused 7)
-    (cond (ltb g 128) (whole (acc * 128 + g) (k + 1)) (groups m n i (k + 1) (acc * 128 + (g - 128)) more))
+-- in the n bits of m: the pointer that begins at bit i, after k groups with the value acc, with at most so many groups to come
+module _ (m : List ℕ) (n : ℕ) where
+  abbrev pub groups : ℕ → ℕ → ℕ → ℕ → Read
+  groups i k acc zero = refused 7
+  groups i k acc (suc more) =
+      let here = i + 8 * k in
+      let g = fieldAt m here 8 in
+      cond (ltb n (here + 8)) (refused 7)
+      (cond (ltb g 128) (whole (acc * 128 + g) (k + 1)) (groups i (k + 1) (acc * 128 + (g - 128)) more))
 
--- the pointer that begins at bit i of the n bits of m: one to three groups
-unfoldable pub pointerAt : List ℕ → ℕ → ℕ → Read
-pointerAt m n i = groups m n i 0 0 3
+  -- one to three groups
+  unfoldable pub pointerAt : ℕ → Read
+  pointerAt i = groups i 0 0 3

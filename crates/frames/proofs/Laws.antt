@@ -1,10 +1,9 @@
 -- What a caller learns from a frame that says a command. Assumes nothing.
 use Prim.Native.Nat.{ℕ, _+_, _-_, _*_, _≤_}
-use mathlib.Core.Path.{_≡_, refl, sym, _∙_}
-use mathlib.Core.Bool.{Bool, true, false, cond, _||_}
+use mathlib.Core.Path.{_≡_, refl}
+use mathlib.Core.Bool.{Bool, true, false, cond, not, _||_}
 use mathlib.Core.List.{List}
 use native.Mathlib.Omega.{arith}
-use native.Mathlib.Decide.{decLe}
 use lib.Dec.{eqb, ltb}
 use lib.ListN.{length}
 use borrow.Author.Tests.{eqb-true}
@@ -17,12 +16,12 @@ use Rattle.frames.specs.declared.Order.the-variants as order
 use Rattle.frames.specs.declared.Command.{Command}
 use Rattle.frames.specs.Message.{Message}
 use Rattle.frames.specs.Message as heard
-use Rattle.frames.specs.Frames.{exactly, pointed, heardOf}
-use Rattle.frames.proofs.Codes.{beyond}
+use Rattle.frames.specs.Frames.{checksumRight, exactly, pointed, heardOf}
 use Rattle.frames.proofs.Pointers.{Fits, fits}
 
 -- the words that a frame of n bits brings are followed by the number and the CRC-16
 abbrev Brings : ℕ → Order → Type 0
+Brings n order.Nak = Unit {0}
 Brings n order.ReqRn = Unit {0}
 Brings n (order.Read s) = Unit {0}
 Brings n (order.Write s w) = Unit {0}
@@ -36,15 +35,15 @@ Brings n (order.Permalock r s p) = (p + 16 * s .count + 32 ≡ n) × (p ≤ 51)
 
 abbrev Sized : ℕ → Message → Type 0
 Sized n (heard.refused k) = Unit {0}
-Sized n heard.nak = Unit {0}
-Sized n (heard.said c) = (40 ≤ n) × Brings n (c .order)
+Sized n (heard.said c) = Brings n (c .order)
 
-exact-sized : (m : List ℕ) (n k : ℕ) (o : Order) → 40 ≤ k → Brings k o → Sized n (exactly m n k o)
-exact-sized m n k o l b = go (eqb n k) refl
+exact-sized : (m : List ℕ) (n k : ℕ) (o : Order) → Brings k o → Sized n (exactly m n k o)
+exact-sized m n k o b = go (eqb n k) (checksumRight m n) refl
   where
-    go : (t : Bool) → eqb n k ≡ t → Sized n (cond t (heard.said (record { number = fieldAt m (n - 32) 16; order = o })) (heard.refused 7))
-    go true e = rw (eqb-true n k e) (l, b)
-    go false e = tt
+    go : (t u : Bool) → eqb n k ≡ t → Sized n (cond (not t) (heard.refused 7) (cond (not u) (heard.refused 8) (heard.said (record { number = fieldAt m (n - 32) 16; order = o }))))
+    go true true e = rw (eqb-true n k e) b
+    go true false e = tt
+    go false u e = tt
 
 pointed-sized : (m : List ℕ) (n i : ℕ) (f : ℕ → ℕ → Message) → ((v e : ℕ) → e ≤ 3 → Sized n (f v e)) → Sized n (pointed (pointerAt m n i) f)
 pointed-sized m n i f h = go (pointerAt m n i) (fits m n i)
@@ -62,36 +61,23 @@ unfolding heardOf
 heard-sized m n =
     let code = fieldAt m 0 8 in
     cond-sized n (ltb (8 * length m) n || ltb n 8) _ _ tt
-    (cond-sized n (eqb code 0xC0) _ _ (cond-sized n (eqb n 8) heard.nak (heard.refused 7) tt tt)
-    (cond-sized n (eqb code 0xC1) _ _ (exact-sized m n _ _ (omega arith) tt)
-    (cond-sized n (eqb code 0xC2) _ _ (pointed-sized m n 10 _ (λ v e l. exact-sized m n _ _ (omega arith) tt))
-    (cond-sized n (eqb code 0xC3) _ _ (pointed-sized m n 10 _ (λ v e l. exact-sized m n _ _ (omega arith) tt))
-    (cond-sized n (eqb code 0xC4) _ _ (exact-sized m n _ _ (omega arith) tt)
-    (cond-sized n (eqb code 0xC5) _ _ (exact-sized m n _ _ (omega arith) tt)
-    (cond-sized n (eqb code 0xC6) _ _ (exact-sized m n _ _ (omega arith) tt)
-    (cond-sized n (eqb code 0xC7) _ _ (pointed-sized m n 10 _ (λ v e l. exact-sized m n _ _ (omega arith) (omega arith, omega arith)))
-    (cond-sized n (eqb code 0xC8) _ _ (pointed-sized m n 10 _ (λ v e l. exact-sized m n _ _ (omega arith) tt))
-    (cond-sized n (eqb code 0xC9) _ _ (pointed-sized m n 19 _ (λ v e l. cond-sized n (eqb (fieldAt m 16 1) 0) _ _ (exact-sized m n _ _ (omega arith) tt) (exact-sized m n _ _ (omega arith) (omega arith, omega arith)))) tt))))))))))
-
-never : {c : Command} → heard.refused 7 ≡ heard.said c → ⊥
-never e = let z : _≡_ {A = ℕ} 0 1 = cc in omega arith
+    (cond-sized n (eqb code 0xC0) _ _ (cond-sized n (eqb n 8) (heard.said (record { number = 0; order = order.Nak })) (heard.refused 7) tt tt)
+    (cond-sized n (eqb code 0xC1) _ _ (exact-sized m n _ _ tt)
+    (cond-sized n (eqb code 0xC2) _ _ (pointed-sized m n 10 _ (λ v e l. exact-sized m n _ _ tt))
+    (cond-sized n (eqb code 0xC3) _ _ (pointed-sized m n 10 _ (λ v e l. exact-sized m n _ _ tt))
+    (cond-sized n (eqb code 0xC4) _ _ (exact-sized m n _ _ tt)
+    (cond-sized n (eqb code 0xC5) _ _ (exact-sized m n _ _ tt)
+    (cond-sized n (eqb code 0xC6) _ _ (exact-sized m n _ _ tt)
+    (cond-sized n (eqb code 0xC7) _ _ (pointed-sized m n 10 _ (λ v e l. exact-sized m n _ _ (omega arith, omega arith)))
+    (cond-sized n (eqb code 0xC8) _ _ (pointed-sized m n 10 _ (λ v e l. exact-sized m n _ _ tt))
+    (cond-sized n (eqb code 0xC9) _ _ (pointed-sized m n 19 _ (λ v e l. cond-sized n (eqb (fieldAt m 16 1) 0) _ _ (exact-sized m n _ _ tt) (exact-sized m n _ _ (omega arith, omega arith)))) tt))))))))))
 
 module _ (m : List ℕ) (n : ℕ) (c : Command) (said : heardOf m n ≡ heard.said c) where
-  held : n ≤ 8 * length m
-  held = go (decLe n (8 * length m))
-    where
-      go : Dec (n ≤ 8 * length m) → n ≤ 8 * length m
-      go (yes h) = h
-      go (no h) = absurd (never (sym (beyond m n (omega arith)) ∙ said))
-
-  sized : Sized n (heard.said c)
-  sized = rw said at (heard-sized m n)
-
-  pub said-bounds : (40 ≤ n) × (n ≤ 8 * length m)
-  said-bounds = (sized .0, held)
+  brings : Brings n (c .order)
+  brings = rw said at (heard-sized m n)
 
   pub said-block-write : (s : Span) (p : ℕ) → c .order ≡ order.BlockWrite s p → (p + 16 * s .count + 32 ≡ n) × (p ≤ 51)
-  said-block-write s p e = rw e at (sized .1)
+  said-block-write s p e = rw e at brings
 
   pub said-permalock : (r : ℕ) (s : Span) (p : ℕ) → c .order ≡ order.Permalock r s p → (p + 16 * s .count + 32 ≡ n) × (p ≤ 51)
-  said-permalock r s p e = rw e at (sized .1)
+  said-permalock r s p e = rw e at brings

@@ -1,7 +1,6 @@
 -- A frame of each command and the edges of frames (RULES 3.5 to 3.8), computed. Assumes nothing.
 use Prim.Native.Nat.{ℕ}
 use mathlib.Core.Path.{_≡_, refl}
-use mathlib.Core.Bool.{true, false}
 use mathlib.Core.List.{List, [], _∷_}
 use lib.ListN.{take}
 use Rattle.bits.specs.Bits.{fieldAt}
@@ -22,7 +21,8 @@ abbrev reads : List ℕ
 reads = 0xC2 ∷ 0xE0 ∷ 0x5A ∷ 0x81 ∷ 0x6A ∷ 0xF3 ∷ 0x51 ∷ 0xFC ∷ 0x80 ∷ []
 
 pub record Cases : Type 0 where
-  pub nak : heardOf (0xC0 ∷ []) 8 ≡ heard.nak
+  pub nak : heardOf (0xC0 ∷ []) 8 ≡ heard.said (record { number = 0; order = order.Nak })
+  pub nak-long : heardOf (0xC0 ∷ 0 ∷ []) 9 ≡ heard.refused 7
   pub reqRn : heardOf (0xC1 ∷ 0xAB ∷ 0xCD ∷ 0xEB ∷ 0xC1 ∷ []) 40 ≡ said order.ReqRn
   pub read : heardOf reads 66 ≡ said (order.Read (span 3 234 5))
   pub write : heardOf (0xC3 ∷ 0x40 ∷ 0x84 ∷ 0x8D ∷ 0x2A ∷ 0xF3 ∷ 0x4C ∷ 0xCC ∷ 0x80 ∷ []) 66 ≡ said (order.Write (span 1 2 1) 0x1234)
@@ -39,13 +39,14 @@ pub record Cases : Type 0 where
   pub beyond : heardOf (take 8 reads) 66 ≡ heard.refused 7
   pub none : heardOf [] 0 ≡ heard.refused 7
   pub fourth : heardOf (0xC2 ∷ 0xE0 ∷ 0x20 ∷ 0x20 ∷ 0x01 ∷ 0x41 ∷ 0x6A ∷ 0xF3 ∷ 0x40 ∷ 0xCD ∷ 0x40 ∷ []) 82 ≡ heard.refused 7
-  pub right : checksumRight reads 66 ≡ true
-  pub wrong : checksumRight reads 65 ≡ false
+  pub wrong : heardOf (0xC1 ∷ 0xAB ∷ 0xCD ∷ 0xEB ∷ 0xC0 ∷ []) 40 ≡ heard.refused 8
+  pub wrong-and-long : heardOf (0xC1 ∷ 0xAB ∷ 0xCD ∷ 0xEB ∷ 0xC0 ∷ 0 ∷ []) 41 ≡ heard.refused 7
 
 pub cases : Cases
 unfolding heardOf checksumRight pointerAt fieldAt crcOf
 cases = record {
   nak = refl;
+  nak-long = refl;
   reqRn = refl;
   read = refl;
   write = refl;
@@ -62,6 +63,6 @@ cases = record {
   beyond = refl;
   none = refl;
   fourth = refl;
-  right = refl;
   wrong = refl;
+  wrong-and-long = refl;
 }

@@ -1,3 +1,4 @@
 pub mod Message
 pub mod Frames
+pub mod Steps
 pub mod Cases

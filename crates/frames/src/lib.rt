@@ -4,7 +4,8 @@ ghost use Prim.Native.Nat.{_+_, _*_, _≤_, _<_};
 ghost use lib.ListN.{length};
 ghost use Rattle.bits.specs.Bits.{fieldAt};
 ghost use Rattle.frames.specs.Message.{meaning};
-ghost use Rattle.frames.specs.Frames.{heardOf, checksumRight, exactly, span as spanOf, nakOf, reqRnOf, readOf, writeOf, killOf, lockOf, accessOf, blockWriteOf, blockEraseOf, permalockOf};
+ghost use Rattle.frames.specs.Frames.{heardOf, checksumRight, exactly, span as spanOf, readFrame, writeFrame, blockWriteFrame, blockEraseFrame, permalockFrame};
+ghost use Rattle.frames.specs.Steps.{nakFrame, reqRnFrame, killFrame, lockFrame, accessFrame};
 use ebv::Pointer;
 
 // Words of a bank: the bank's number, the first word and how many. For BlockPermalock the words are PERMA's.
@@ -16,6 +17,7 @@ pub struct Span {
 
 // What a command asks for. Words and halves are as sent, covered. A place is the first bit of the words that the frame brings.
 pub enum Order {
+    Nak,
     ReqRn,
     Read(Span),
     Write(Span, u16),
@@ -28,7 +30,7 @@ pub enum Order {
     Permalock(u16, Span, usize),
 }
 
-// A command: the number that it carries, and what it asks for.
+// A command: the number that it carries (0 for NAK, which has none), and what it asks for.
 pub struct Command {
     pub number: u16,
     pub order: Order,
@@ -37,8 +39,16 @@ pub struct Command {
 // What a frame says.
 pub enum Heard {
     Malformed,
-    Nak,
+    Checksum,
     Said(Command),
+}
+
+// Whether the CRC-16 at a frame's end is that of the bits before it.
+fn checksum_right(frame: &[u8], n: usize) -> bool
+    requires { ⌜ (24 ≤ n) × (n ≤ 8 * length (now frame)) ⌝ }
+    ensures { λ r. ⌜ r ≡ checksumRight (now (frame .entry)) n ⌝ }
+{
+    bits::last_word(frame, n) == crc::crc16(frame, n - 16)
 }
 
 // The order in a frame of exactly k bits, with the number before the CRC-16.
@@ -46,12 +56,14 @@ fn exact(frame: &[u8], n: usize, k: usize, order: Order) -> Heard
     requires { ⌜ (40 ≤ k) × (n ≤ 8 * length (now frame)) ⌝ }
     ensures { λ r. ⌜ meaning r ≡ exactly (now (frame .entry)) n k order ⌝ }
 {
-    if n == k {
-        let number = bits::last_word(frame, n - 16);
-        Heard::Said(Command { number, order })
-    } else {
-        Heard::Malformed
+    if n != k {
+        return Heard::Malformed;
     }
+    if !checksum_right(frame, n) {
+        return Heard::Checksum;
+    }
+    let number = bits::last_word(frame, n - 16);
+    Heard::Said(Command { number, order })
 }
 
 // The bits of a pointer of so many bytes.
@@ -77,21 +89,27 @@ fn named(frame: &[u8], at: usize, pointer: u32, w: usize) -> Span
 }
 
 fn nak(n: usize) -> Heard
-    ensures { λ r. ⌜ meaning r ≡ nakOf n ⌝ }
+    ensures { λ r. ⌜ meaning r ≡ nakFrame n ⌝ }
 {
-    if n == 8 { Heard::Nak } else { Heard::Malformed }
+    if n != 8 {
+        return Heard::Malformed;
+    }
+    Heard::Said(Command {
+        number: 0,
+        order: Order::Nak,
+    })
 }
 
 fn req_rn(frame: &[u8], n: usize) -> Heard
     requires { ⌜ n ≤ 8 * length (now frame) ⌝ }
-    ensures { λ r. ⌜ meaning r ≡ reqRnOf (now (frame .entry)) n ⌝ }
+    ensures { λ r. ⌜ meaning r ≡ reqRnFrame (now (frame .entry)) n ⌝ }
 {
     exact(frame, n, 40, Order::ReqRn)
 }
 
 fn read(frame: &[u8], n: usize) -> Heard
     requires { ⌜ n ≤ 8 * length (now frame) ⌝ }
-    ensures { λ r. ⌜ meaning r ≡ readOf (now (frame .entry)) n ⌝ }
+    ensures { λ r. ⌜ meaning r ≡ readFrame (now (frame .entry)) n ⌝ }
 {
     let Pointer::Whole { value, bytes } = ebv::read(frame, n, 10) else {
         return Heard::Malformed;
@@ -103,7 +121,7 @@ fn read(frame: &[u8], n: usize) -> Heard
 
 fn write(frame: &[u8], n: usize) -> Heard
     requires { ⌜ n ≤ 8 * length (now frame) ⌝ }
-    ensures { λ r. ⌜ meaning r ≡ writeOf (now (frame .entry)) n ⌝ }
+    ensures { λ r. ⌜ meaning r ≡ writeFrame (now (frame .entry)) n ⌝ }
 {
     let Pointer::Whole { value, bytes } = ebv::read(frame, n, 10) else {
         return Heard::Malformed;
@@ -121,14 +139,14 @@ fn write(frame: &[u8], n: usize) -> Heard
 
 fn kill(frame: &[u8], n: usize) -> Heard
     requires { ⌜ n ≤ 8 * length (now frame) ⌝ }
-    ensures { λ r. ⌜ meaning r ≡ killOf (now (frame .entry)) n ⌝ }
+    ensures { λ r. ⌜ meaning r ≡ killFrame (now (frame .entry)) n ⌝ }
 {
     exact(frame, n, 59, Order::Kill(bits::field(frame, 8, 16)))
 }
 
 fn lock(frame: &[u8], n: usize) -> Heard
     requires { ⌜ n ≤ 8 * length (now frame) ⌝ }
-    ensures { λ r. ⌜ meaning r ≡ lockOf (now (frame .entry)) n ⌝ }
+    ensures { λ r. ⌜ meaning r ≡ lockFrame (now (frame .entry)) n ⌝ }
 {
     let mask = bits::field(frame, 8, 10);
     let action = bits::field(frame, 18, 10);
@@ -137,14 +155,14 @@ fn lock(frame: &[u8], n: usize) -> Heard
 
 fn access(frame: &[u8], n: usize) -> Heard
     requires { ⌜ n ≤ 8 * length (now frame) ⌝ }
-    ensures { λ r. ⌜ meaning r ≡ accessOf (now (frame .entry)) n ⌝ }
+    ensures { λ r. ⌜ meaning r ≡ accessFrame (now (frame .entry)) n ⌝ }
 {
     exact(frame, n, 56, Order::Access(bits::field(frame, 8, 16)))
 }
 
 fn block_write(frame: &[u8], n: usize) -> Heard
     requires { ⌜ n ≤ 8 * length (now frame) ⌝ }
-    ensures { λ r. ⌜ meaning r ≡ blockWriteOf (now (frame .entry)) n ⌝ }
+    ensures { λ r. ⌜ meaning r ≡ blockWriteFrame (now (frame .entry)) n ⌝ }
 {
     let Pointer::Whole { value, bytes } = ebv::read(frame, n, 10) else {
         return Heard::Malformed;
@@ -161,7 +179,7 @@ fn block_write(frame: &[u8], n: usize) -> Heard
 
 fn block_erase(frame: &[u8], n: usize) -> Heard
     requires { ⌜ n ≤ 8 * length (now frame) ⌝ }
-    ensures { λ r. ⌜ meaning r ≡ blockEraseOf (now (frame .entry)) n ⌝ }
+    ensures { λ r. ⌜ meaning r ≡ blockEraseFrame (now (frame .entry)) n ⌝ }
 {
     let Pointer::Whole { value, bytes } = ebv::read(frame, n, 10) else {
         return Heard::Malformed;
@@ -173,7 +191,7 @@ fn block_erase(frame: &[u8], n: usize) -> Heard
 
 fn permalock(frame: &[u8], n: usize) -> Heard
     requires { ⌜ n ≤ 8 * length (now frame) ⌝ }
-    ensures { λ r. ⌜ meaning r ≡ permalockOf (now (frame .entry)) n ⌝ }
+    ensures { λ r. ⌜ meaning r ≡ permalockFrame (now (frame .entry)) n ⌝ }
 {
     let Pointer::Whole { value, bytes } = ebv::read(frame, n, 19) else {
         return Heard::Malformed;
@@ -223,12 +241,4 @@ pub fn hear(frame: &[u8], n: usize) -> Heard
         return Heard::Malformed;
     }
     by_code(frame, n, frame[0])
-}
-
-// Whether the CRC-16 at a frame's end is that of the bits before it.
-pub fn checksum_right(frame: &[u8], n: usize) -> bool
-    requires { ⌜ (24 ≤ n) × (n ≤ 8 * length (now frame)) ⌝ }
-    ensures { λ r. ⌜ r ≡ checksumRight (now (frame .entry)) n ⌝ }
-{
-    bits::last_word(frame, n) == crc::crc16(frame, n - 16)
 }

@@ -10,9 +10,9 @@ use borrow.Author.Tests.{le-ltb, ltb-false, eqb-true, eqb-false, eq-eqb, ne-eqb}
 use Rattle.image.specs.declared.Layout.{Layout}
 use Rattle.image.specs.Layout.{layoutOf, headerGood}
 use Rattle.image.specs.Content.{countIn, contentGood}
-use Rattle.image.specs.Check.{Checked, refused, good, rowOf, short, headerWrong, contentBroken, checkOf}
+use Rattle.image.specs.Check.{Checked, refused, good, rowOf, checkOf}
 use Rattle.image.specs.Rules.{Good}
-use Rattle.image.specs.Steps.{contentFits, pendingRow, contentRow, readyRow}
+use Rattle.image.specs.Steps.{contentFits, pendingRow, contentRow, readyRow, short, headerWrong, contentBroken}
 use Rattle.image.proofs.Rules.{header-both, content-both}
 use Rattle.image.proofs.Fits.{same-content}
 

@@ -28,18 +28,10 @@ abbrev pub rowOf : Checked → ℕ
 rowOf (refused n) = n
 rowOf (good y) = 0
 
-abbrev pub short : List ℕ → Bool
-short m = ltb (length m) 32
-
-abbrev pub headerWrong : List ℕ → Bool
-headerWrong m = not (headerGood (layoutOf m) m)
-
-abbrev pub contentBroken : List ℕ → Bool
-contentBroken m = not (contentGood (layoutOf m) m)
-
 -- the rows that an image alone decides, given what each number leaves
 abbrev pub imageRows : {A : Type 0} → (ℕ → A) → List ℕ → List (A × Bool)
-imageRows leaving m = (leaving 1, short m) ∷ (leaving 2, headerWrong m) ∷ (leaving 3, contentBroken m) ∷ []
+imageRows leaving m =
+    (leaving 1, ltb (length m) 32) ∷ (leaving 2, not (headerGood (layoutOf m) m)) ∷ (leaving 3, not (contentGood (layoutOf m) m)) ∷ []
 
 unfoldable pub checkOf : List ℕ → Checked
 checkOf m = first (imageRows refused m) (good (layoutOf m))

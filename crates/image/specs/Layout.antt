@@ -50,7 +50,8 @@ within a b x = leb a x && leb x b
 abbrev pub stands : Section → ℕ → ℕ → ℕ → Bool
 stands s o a b = eqb (s .at) o && within a b (s .words)
 
--- the header's rules, one to a line; W is at most 255, so that a count is one byte and one torn on its way is the old count or the new one (D3)
+-- the header's rules, one to a line; W is at most 255, so that a count is one byte and one torn on its way is the old count or the new
+-- one (D3)
 abbrev pub headerRules : Layout → List ℕ → List Bool
 headerRules y m =
     eqb (wordAt m 0) 7

@@ -1,4 +1,5 @@
--- The rules of RULES 1 as facts, for whoever builds on a good image. Equal to the tests by `header-both` and `content-both`. Assumes nothing.
+-- The rules of RULES 1 as facts, for whoever builds on a good image. Equal to the tests by `header-both` and `content-both`. Assumes
+-- nothing.
 use Prim.Native.Nat.{ℕ, _+_, _*_, _^_, _≤_, _<_}
 use mathlib.Core.Path.{_≡_}
 use mathlib.Core.Bool.{true}

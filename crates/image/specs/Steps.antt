@@ -1,4 +1,5 @@
--- The check as the code makes it: the header's rules in four parts, and which value may stand at which word. Equal to Layout's and Content's by `same-header` and `same-content`. Assumes nothing.
+-- The check as the code makes it: the header's rules in four parts, and which value may stand at which word. Equal to Layout's and
+-- Content's by `same-header` and `same-content`. Assumes nothing.
 use Prim.Native.Nat.{ℕ, _+_, _-_, _*_, _/_, _%_, _^_}
 use mathlib.Core.Bool.{Bool, true, not, cond, _&&_, _||_}
 use mathlib.Core.List.{List, [], _∷_}
@@ -7,10 +8,20 @@ use lib.ListN.{length}
 use Rattle.bits.specs.Words.{wordAt}
 use Rattle.bits.specs.Below.{every, all}
 use Rattle.image.specs.declared.Layout.{Layout}
-use Rattle.image.specs.Layout.{layoutOf, end, blocksIn, pairsIn, within}
+use Rattle.image.specs.Layout.{layoutOf, headerGood, end, blocksIn, pairsIn, within}
 use Rattle.image.specs.Layout.{stands as Layout·stands}
-use Rattle.image.specs.Content.{lockWord, killedWord, lengthOf, pcWord, countIn, pairAt}
+use Rattle.image.specs.Content.{contentGood, lockWord, killedWord, lengthOf, pcWord, countIn, pairAt}
 use Rattle.image.specs.Check.{rowOf, checkOf}
+
+-- the rows 1, 2 and 3, by name
+abbrev pub short : List ℕ → Bool
+short m = ltb (length m) 32
+
+abbrev pub headerWrong : List ℕ → Bool
+headerWrong m = not (headerGood (layoutOf m) m)
+
+abbrev pub contentBroken : List ℕ → Bool
+contentBroken m = not (contentGood (layoutOf m) m)
 
 -- the header's rules up to STATUS
 abbrev pub startRules : Layout → List ℕ → List Bool

@@ -17,7 +17,8 @@ abbrev pub bytesOf : List ℕ → List ℕ
 bytesOf [] = []
 bytesOf (v ∷ vs) = v / 256 ∷ v % 256 ∷ bytesOf vs
 
--- B = 4, 16 words of USER, 4 blocks, W = 16; kill password 4B494C4Ch, access password 0, L = 2; USER begins with a loan entry of seven words
+-- B = 4, 16 words of USER, 4 blocks, W = 16; kill password 4B494C4Ch, access password 0, L = 2; USER begins with a loan entry of seven
+-- words
 unfoldable pub worked : List ℕ
 worked =
     bytesOf

@@ -1,5 +1,5 @@
--- Wrong answers that the promises of the lent forms rule out, two for each: a record that keeps the old session, and one that is changed where the call
--- is refused or its power lost (RULES 7.2). Assumes nothing.
+-- Wrong answers that the promises of the lent forms rule out, two for each: a record that keeps the old session, and one that is changed
+-- where the call is refused or its power lost (RULES 7.2). Assumes nothing.
 use Prim.Native.Nat.{ℕ, _+_, _*_}
 use mathlib.Core.Path.{_≡_, refl, sym, ap, _∙_}
 use mathlib.Core.Bool.{Bool, true, false}
@@ -14,7 +14,7 @@ use Rattle.image.specs.Layout.{layoutOf, headerGood, blocksIn}
 use Rattle.image.specs.Content.{rulesHold, contentGood}
 use Rattle.image.specs.Worked.{worked}
 use Rattle.frames.specs.Frames.{heardOf}
-use Rattle.stores.specs.Stores.{powerStores}
+use Rattle.stores.specs.Stores.{powerStores, changeStores}
 use Rattle.states.specs.declared.State.{State}
 use Rattle.states.specs.declared.State.the-variants as state
 use Rattle.tag.specs.declared.Power.{Power}
@@ -22,11 +22,12 @@ use Rattle.tag.specs.declared.Power.the-variants as power
 use Rattle.tag.specs.declared.Session.{Session}
 use Rattle.tag.specs.declared.Outcome.{Outcome}
 use Rattle.tag.specs.Session.{offSession, newSession, on, clear}
-use Rattle.tag.specs.Result.{Result}
+use Rattle.tag.specs.Result.{Result, firstOf}
 use Rattle.tag.specs.Power.{powerUpOf}
-use Rattle.tag.specs.Table.{input, frameOf, admitOf}
+use Rattle.tag.specs.Table.{frameOf, admitOf}
 use Rattle.tag.specs.Port.{bitOf, numberIn, askOf, releaseOf, registerOf, readOf, writeOf}
 use Rattle.lent.specs.Lent.{Lent, finds}
+use Rattle.tag.specs.Steps.{input}
 
 -- a number for each of the sessions below
 abbrev stateNo : State → ℕ
@@ -63,41 +64,41 @@ abbrev known : Session
 known = newSession (state.Acknowledged 0x1234)
 
 pub record Wrong : Type 0 where
-  pub power-up-kept : Never (powerUpOf worked 1) offSession
-  pub power-up-changed : Never (powerUpOf worked 0) arbitrate
-  pub ask-kept : Never (askOf arbitrate) arbitrate
-  pub ask-changed : Never (askOf offSession) (holding state.Arbitrate)
-  pub release-kept : Never (releaseOf (holding state.Arbitrate)) (holding state.Arbitrate)
-  pub release-changed : Never (releaseOf arbitrate) offSession
-  pub register-kept : Never (registerOf (marked true)) (marked true)
-  pub register-changed : Never (registerOf (marked false)) arbitrate
-  pub admit-kept : Never (admitOf arbitrate 0x1234) arbitrate
-  pub admit-changed : Never (admitOf (holding state.Arbitrate) 0x1234) known
-  pub read-kept : Never (readOf (holding state.Killed) worked 0 1 (replicate 2 0)) (holding state.Killed)
-  pub read-changed : Never (readOf arbitrate [] 0 1 []) offSession
-  pub write-kept : Never (writeOf (holding state.Arbitrate) worked 0 (1 ∷ 2 ∷ []) 0) (holding state.Arbitrate)
-  pub write-changed : Never (writeOf (holding state.Arbitrate) worked 0 [] 0) offSession
-  pub frame-kept : Never (frameOf (input known worked (0xC0 ∷ []) 8 0 [] 0)) known
-  pub frame-changed : Never (frameOf (input known [] (0xC0 ∷ []) 8 0 [] 0)) arbitrate
+  pub power-up-kept : Never (firstOf (powerUpOf worked 1)) offSession
+  pub power-up-changed : Never (firstOf (powerUpOf worked 0)) arbitrate
+  pub ask-kept : Never (firstOf (askOf arbitrate)) arbitrate
+  pub ask-changed : Never (firstOf (askOf offSession)) (holding state.Arbitrate)
+  pub release-kept : Never (firstOf (releaseOf (holding state.Arbitrate))) (holding state.Arbitrate)
+  pub release-changed : Never (firstOf (releaseOf arbitrate)) offSession
+  pub register-kept : Never (firstOf (registerOf (marked true))) (marked true)
+  pub register-changed : Never (firstOf (registerOf (marked false))) arbitrate
+  pub admit-kept : Never (firstOf (admitOf arbitrate 0x1234)) arbitrate
+  pub admit-changed : Never (firstOf (admitOf (holding state.Arbitrate) 0x1234)) known
+  pub read-kept : Never (firstOf (readOf (holding state.Killed) worked 0 1 (replicate 2 0))) (holding state.Killed)
+  pub read-changed : Never (firstOf (readOf arbitrate [] 0 1 [])) offSession
+  pub write-kept : Never (firstOf (writeOf changeStores (holding state.Arbitrate) worked 0 (1 ∷ 2 ∷ []) 0)) (holding state.Arbitrate)
+  pub write-changed : Never (firstOf (writeOf changeStores (holding state.Arbitrate) worked 0 [] 0)) offSession
+  pub frame-kept : Never (firstOf (frameOf changeStores (input known worked (0xC0 ∷ []) 8 0 [] 0))) known
+  pub frame-changed : Never (firstOf (frameOf changeStores (input known [] (0xC0 ∷ []) 8 0 [] 0))) arbitrate
 
 pub wrong : Wrong
 unfolding powerUpOf powerStores askOf releaseOf registerOf admitOf readOf writeOf frameOf heardOf layoutOf headerGood blocksIn contentGood rulesHold worked wordAt withWord wordsBits bitsOf fieldAt crcOf
 wrong =
     record {
-      power-up-kept = never (powerUpOf worked 1) offSession refl;
-      power-up-changed = never (powerUpOf worked 0) arbitrate refl;
-      ask-kept = never (askOf arbitrate) arbitrate refl;
-      ask-changed = never (askOf offSession) (holding state.Arbitrate) refl;
-      release-kept = never (releaseOf (holding state.Arbitrate)) (holding state.Arbitrate) refl;
-      release-changed = never (releaseOf arbitrate) offSession refl;
-      register-kept = never (registerOf (marked true)) (marked true) refl;
-      register-changed = never (registerOf (marked false)) arbitrate refl;
-      admit-kept = never (admitOf arbitrate 0x1234) arbitrate refl;
-      admit-changed = never (admitOf (holding state.Arbitrate) 0x1234) known refl;
-      read-kept = never (readOf (holding state.Killed) worked 0 1 (replicate 2 0)) (holding state.Killed) refl;
-      read-changed = never (readOf arbitrate [] 0 1 []) offSession refl;
-      write-kept = never (writeOf (holding state.Arbitrate) worked 0 (1 ∷ 2 ∷ []) 0) (holding state.Arbitrate) refl;
-      write-changed = never (writeOf (holding state.Arbitrate) worked 0 [] 0) offSession refl;
-      frame-kept = never (frameOf (input known worked (0xC0 ∷ []) 8 0 [] 0)) known refl;
-      frame-changed = never (frameOf (input known [] (0xC0 ∷ []) 8 0 [] 0)) arbitrate refl;
+      power-up-kept = never (firstOf (powerUpOf worked 1)) offSession refl;
+      power-up-changed = never (firstOf (powerUpOf worked 0)) arbitrate refl;
+      ask-kept = never (firstOf (askOf arbitrate)) arbitrate refl;
+      ask-changed = never (firstOf (askOf offSession)) (holding state.Arbitrate) refl;
+      release-kept = never (firstOf (releaseOf (holding state.Arbitrate))) (holding state.Arbitrate) refl;
+      release-changed = never (firstOf (releaseOf arbitrate)) offSession refl;
+      register-kept = never (firstOf (registerOf (marked true))) (marked true) refl;
+      register-changed = never (firstOf (registerOf (marked false))) arbitrate refl;
+      admit-kept = never (firstOf (admitOf arbitrate 0x1234)) arbitrate refl;
+      admit-changed = never (firstOf (admitOf (holding state.Arbitrate) 0x1234)) known refl;
+      read-kept = never (firstOf (readOf (holding state.Killed) worked 0 1 (replicate 2 0))) (holding state.Killed) refl;
+      read-changed = never (firstOf (readOf arbitrate [] 0 1 [])) offSession refl;
+      write-kept = never (firstOf (writeOf changeStores (holding state.Arbitrate) worked 0 (1 ∷ 2 ∷ []) 0)) (holding state.Arbitrate) refl;
+      write-changed = never (firstOf (writeOf changeStores (holding state.Arbitrate) worked 0 [] 0)) offSession refl;
+      frame-kept = never (firstOf (frameOf changeStores (input known worked (0xC0 ∷ []) 8 0 [] 0))) known refl;
+      frame-changed = never (firstOf (frameOf changeStores (input known [] (0xC0 ∷ []) 8 0 [] 0))) arbitrate refl;
     }

@@ -2,14 +2,15 @@
 ghost use mathlib.Core.Path.{_≡_};
 ghost use mathlib.Core.List.{[]};
 ghost use Rattle.tag.specs.Power.{powerUpOf};
-ghost use Rattle.tag.specs.Table.{input, frameOf, admitOf};
+ghost use Rattle.tag.specs.Table.{frameOf, admitOf};
 ghost use Rattle.tag.specs.Port.{askOf, releaseOf, registerOf, readOf, writeOf};
-ghost use Rattle.tag.specs.Result.{result};
+ghost use Rattle.tag.specs.Result.{result, firstOf};
+ghost use Rattle.stores.specs.Stores.{changeStores};
 use tag::Outcome;
 use tag::Session;
 
 pub fn power_up(session: &mut Session, image: &mut [u8], s: usize) -> Outcome
-    ensures { λ r. ⌜ (result r (now (image .exit)) [] ≡ powerUpOf (now (image .entry)) s) × (now (session .exit) ≡ r .session) ⌝ }
+    ensures { λ r. ⌜ (result r (now (image .exit)) [] ≡ firstOf (powerUpOf (now (image .entry)) s)) × (now (session .exit) ≡ r .session) ⌝ }
 {
     let o = tag::power_up(image, s);
     *session = o.session;
@@ -17,7 +18,7 @@ pub fn power_up(session: &mut Session, image: &mut [u8], s: usize) -> Outcome
 }
 
 pub fn ask(session: &mut Session) -> Outcome
-    ensures { λ r. ⌜ (result r [] [] ≡ askOf (now (session .entry))) × (now (session .exit) ≡ r .session) ⌝ }
+    ensures { λ r. ⌜ (result r [] [] ≡ firstOf (askOf (now (session .entry)))) × (now (session .exit) ≡ r .session) ⌝ }
 {
     let o = (*session).ask();
     *session = o.session;
@@ -25,7 +26,7 @@ pub fn ask(session: &mut Session) -> Outcome
 }
 
 pub fn release(session: &mut Session) -> Outcome
-    ensures { λ r. ⌜ (result r [] [] ≡ releaseOf (now (session .entry))) × (now (session .exit) ≡ r .session) ⌝ }
+    ensures { λ r. ⌜ (result r [] [] ≡ firstOf (releaseOf (now (session .entry)))) × (now (session .exit) ≡ r .session) ⌝ }
 {
     let o = (*session).release();
     *session = o.session;
@@ -33,7 +34,7 @@ pub fn release(session: &mut Session) -> Outcome
 }
 
 pub fn register(session: &mut Session) -> Outcome
-    ensures { λ r. ⌜ (result r [] [] ≡ registerOf (now (session .entry))) × (now (session .exit) ≡ r .session) ⌝ }
+    ensures { λ r. ⌜ (result r [] [] ≡ firstOf (registerOf (now (session .entry)))) × (now (session .exit) ≡ r .session) ⌝ }
 {
     let o = (*session).register();
     *session = o.session;
@@ -41,7 +42,7 @@ pub fn register(session: &mut Session) -> Outcome
 }
 
 pub fn admit(session: &mut Session, number: u16) -> Outcome
-    ensures { λ r. ⌜ (result r [] [] ≡ admitOf (now (session .entry)) number) × (now (session .exit) ≡ r .session) ⌝ }
+    ensures { λ r. ⌜ (result r [] [] ≡ firstOf (admitOf (now (session .entry)) number)) × (now (session .exit) ≡ r .session) ⌝ }
 {
     let o = (*session).admit(number);
     *session = o.session;
@@ -55,7 +56,7 @@ pub fn read(
     count: usize,
     room: &mut [u8],
 ) -> Outcome
-    ensures { λ r. ⌜ (result r (now (image .entry)) (now (room .exit)) ≡ readOf (now (session .entry)) (now (image .entry)) at count (now (room .entry))) × (now (session .exit) ≡ r .session) ⌝ }
+    ensures { λ r. ⌜ (result r (now (image .entry)) (now (room .exit)) ≡ firstOf (readOf (now (session .entry)) (now (image .entry)) at count (now (room .entry)))) × (now (session .exit) ≡ r .session) ⌝ }
 {
     let o = (*session).read(image, at, count, room);
     *session = o.session;
@@ -63,7 +64,7 @@ pub fn read(
 }
 
 pub fn write(session: &mut Session, image: &mut [u8], at: usize, words: &[u8], s: usize) -> Outcome
-    ensures { λ r. ⌜ (result r (now (image .exit)) [] ≡ writeOf (now (session .entry)) (now (image .entry)) at (now (words .entry)) s) × (now (session .exit) ≡ r .session) ⌝ }
+    ensures { λ r. ⌜ (result r (now (image .exit)) [] ≡ firstOf (writeOf changeStores (now (session .entry)) (now (image .entry)) at (now (words .entry)) s)) × (now (session .exit) ≡ r .session) ⌝ }
 {
     let o = (*session).write(image, at, words, s);
     *session = o.session;
@@ -79,7 +80,7 @@ pub fn frame(
     room: &mut [u8],
     s: usize,
 ) -> Outcome
-    ensures { λ r. ⌜ (result r (now (image .exit)) (now (room .exit)) ≡ frameOf (input (now (session .entry)) (now (image .entry)) (now (frame .entry)) n fresh (now (room .entry)) s)) × (now (session .exit) ≡ r .session) ⌝ }
+    ensures { λ r. ⌜ (result r (now (image .exit)) (now (room .exit)) ≡ firstOf (frameOf changeStores (record { session = (now (session .entry)); image = now (image .entry); frame = now (frame .entry); bits = n; fresh = fresh; room = now (room .entry); power = s }))) × (now (session .exit) ≡ r .session) ⌝ }
 {
     let o = (*session).frame(image, frame, n, fresh, room, s);
     *session = o.session;

@@ -15,7 +15,8 @@ use Rattle.replies.specs.declared.Reply.{Reply}
 use Rattle.replies.specs.declared.Reply.the-variants as reply
 use Rattle.rights.specs.declared.Code.{Code}
 use Rattle.rights.specs.declared.Code.the-variants as code
-use Rattle.rights.specs.Rights.{bankOf, spanWords, other, readCode, writeCode, lockedTo, lockCode, permaReadCode, permaCode}
+use Rattle.rights.specs.declared.Fault.the-variants as fault
+use Rattle.rights.specs.Rights.{bankOf, spanWords, readCode, writeCode, lockedTo, lockCode, permaReadCode, permaCode}
 use Rattle.states.specs.declared.Half.{Half}
 use Rattle.states.specs.declared.Half.the-variants as half
 use Rattle.states.specs.declared.State.{State}
@@ -69,25 +70,27 @@ spanWrites c s pc ws = unless (writeCode (c .layout) (c .image) (isSecured (c .s
 abbrev pub placeOf : Layout → Span → ℕ
 placeOf y s = bankOf y (s .bank) .at + s .pointer
 
--- a half of Kill, by the half that waits: the first has code 00h where there is no kill password; right Kill stores killed as 1.
--- Where a half of the other password waits, the answer was 12
+-- a half of Kill, by the half that waits: the first has code 00h where there is no kill password; the second stores killed as 1. That the
+-- second is right was asked before (`breaks`), and where a half of the other password waits the answer was 12: the last line never counts
 abbrev pub halfKill : Scene → ℕ → Half → Effect
-halfKill c h half.Nothing = unless (cond (zeroKill (c .layout) (c .image)) other code.Nothing) (waits c (half.Kill (bare c h)))
+halfKill c h half.Nothing =
+    unless (cond (zeroKill (c .layout) (c .image)) (code.Error fault.Other) code.Nothing) (waits c (half.Kill (bare c h)))
 halfKill c h (half.Kill up) = does state.Killed (reply.Success (handleIn c)) (store (c .layout .status .at + 1) 1 ∷ [])
-halfKill c h (half.Access up) = does (c .state) reply.Silence []
+halfKill c h (half.Access up) = does (c .state) (reply.Number (handleIn c)) []
 
--- a half of Access; right Access: Secured
+-- a half of Access, likewise; right Access: Secured
 abbrev pub halfAccess : Scene → ℕ → Half → Effect
 halfAccess c h half.Nothing = waits c (half.Access (bare c h))
 halfAccess c h (half.Access up) = does (state.Secured (halved (linkOf (c .state)) half.Nothing)) (reply.Number (handleIn c)) []
 halfAccess c h (half.Kill up) = does (c .state) (reply.Number (handleIn c)) []
 
--- THE COMMANDS: what each comes to, unless its error code applies. A frame's words begin at its bit p
+-- THE COMMANDS: what each comes to, unless its error code applies. A frame's words begin at its bit p; of a BlockWrite the word for EPC
+-- word 1 is the first, or from word 0 on the second
 abbrev pub effectOf : Scene → Order → Effect
+effectOf c order.Nak = does state.Arbitrate reply.Silence []
 effectOf c order.ReqRn = does (numbered (c .layout) (c .image) (c .fresh) (c .state)) (reply.Number (c .fresh)) []
 effectOf c (order.Read s) =
-    let bank = bankOf (c .layout) (s .bank) in
-    unless (readCode (c .layout) (c .image) (isSecured (c .state)) s) (shows c (bank .at + s .pointer) (spanWords bank s))
+    unless (readCode (c .layout) (c .image) (isSecured (c .state)) s) (shows c (placeOf (c .layout) s) (spanWords (c .layout) (c .image) s))
 effectOf c (order.Write s w) = spanWrites c s (bare c w) (store (placeOf (c .layout) s) (bare c w) ∷ [])
 effectOf c (order.Kill h) = halfKill c h (linkOf (c .state) .half)
 effectOf c (order.Lock mask action) =

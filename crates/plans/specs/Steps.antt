@@ -9,10 +9,11 @@ use Rattle.frames.specs.declared.Order.{Order}
 use Rattle.frames.specs.declared.Order.the-variants as order
 use Rattle.rights.specs.declared.Code.{Code}
 use Rattle.rights.specs.declared.Code.the-variants as code
-use Rattle.rights.specs.Rights.{bankOf, spanWords, readCode, writeCode, lockedTo, lockCode, permaReadCode, permaCode}
+use Rattle.rights.specs.Rights.{spanWords, readCode, writeCode, lockedTo, lockCode, permaReadCode, permaCode}
 use Rattle.states.specs.declared.Half.{Half}
 use Rattle.states.specs.declared.Half.the-variants as half
 use Rattle.states.specs.declared.State.{State}
+use Rattle.states.specs.declared.State.the-variants as state
 use Rattle.states.specs.Commands.{linkOf, isSecured, uncovered, used, numbered}
 use Rattle.states.specs.Steps.{killCode, accessed, killed}
 use Rattle.plans.specs.Effects.{placeOf}
@@ -28,7 +29,7 @@ abbrev pub reqRnPlan : Layout → List ℕ → State → ℕ → Plan
 reqRnPlan y m st fresh = plan.Number (numbered y m fresh st) fresh
 
 abbrev pub readPlan : Layout → List ℕ → State → Span → Plan
-readPlan y m st s = orError (readCode y m (isSecured st) s) (plan.Words (used st) (placeOf y s) (spanWords (bankOf y (s .bank)) s))
+readPlan y m st s = orError (readCode y m (isSecured st) s) (plan.Words (used st) (placeOf y s) (spanWords y m s))
 
 abbrev pub writePlan : Layout → List ℕ → State → Span → ℕ → Plan
 writePlan y m st s w =
@@ -37,7 +38,7 @@ writePlan y m st s w =
 -- a half of a Kill, by the half that waits
 abbrev pub killBy : Layout → State → ℕ → Half → Plan
 killBy y st h half.Nothing = plan.Number (killed st h half.Nothing) (linkOf st .handle)
-killBy y st h (half.Access up) = plan.Silent (killed st h (half.Access up))
+killBy y st h (half.Access up) = plan.Number (killed st h (half.Access up)) (linkOf st .handle)
 killBy y st h (half.Kill up) = plan.Word (killed st h (half.Kill up)) 1 (y .status .at + 1)
 
 abbrev pub killHalf : Layout → State → ℕ → Plan
@@ -67,6 +68,7 @@ abbrev pub permalockPlan : Layout → List ℕ → List ℕ → State → Span �
 permalockPlan y m f st s p = orError (permaCode y m s f p) (plan.Mask (used st) (y .perma .at + s .pointer) (s .count) p)
 
 abbrev pub planOf : Layout → List ℕ → List ℕ → ℕ → State → Order → Plan
+planOf y m f fresh st order.Nak = plan.Silent state.Arbitrate
 planOf y m f fresh st order.ReqRn = reqRnPlan y m st fresh
 planOf y m f fresh st (order.Read s) = readPlan y m st s
 planOf y m f fresh st (order.Write s w) = writePlan y m st s w
@@ -80,6 +82,7 @@ planOf y m f fresh st (order.Permalock r s p) = permalockPlan y m f st s p
 
 -- the words of a frame begin in its first bytes
 abbrev pub Placed : Order → Type 0
+Placed order.Nak = Unit {0}
 Placed order.ReqRn = Unit {0}
 Placed (order.Read s) = Unit {0}
 Placed (order.Write s w) = Unit {0}

@@ -14,7 +14,8 @@ use Rattle.bits.proofs.Bits.{length-bits}
 use Rattle.bits.proofs.Digits.{Bits, bits-of, bits-and, bits-drop, bit-above}
 use Rattle.crc.specs.Crc.{crcOf}
 use Rattle.replies.specs.Pack.{filled, packed}
-use Rattle.replies.specs.Replies.{checked, replyBits, replyBytes, replyLength}
+use Rattle.replies.specs.Replies.{checked, replyBits, replyLength}
+use Rattle.replies.specs.Steps.{replyBytes}
 use Rattle.bits.specs.Bits.{wordsBits}
 use Rattle.replies.specs.declared.Reply.{Reply}
 use Rattle.replies.specs.declared.Reply.the-variants.{Silence, Number, Success, Words, Error}

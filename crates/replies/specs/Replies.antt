@@ -18,21 +18,10 @@ replyBits m (Success h) = checked (0 ∷ bitsOf 16 h)
 replyBits m (Words i k h) = checked ((0 ∷ wordsBits m i k) ++ bitsOf 16 h)
 replyBits m (Error e h) = checked ((1 ∷ bitsOf 8 e) ++ bitsOf 16 h)
 
--- how many bits a reply has, and the bytes that it takes
+-- how many bits a reply has
 abbrev pub replyLength : Reply → ℕ
 replyLength Silence = 0
 replyLength (Number n) = 32
 replyLength (Success h) = 33
 replyLength (Words i k h) = 16 * k + 33
 replyLength (Error e h) = 41
-
-abbrev pub replyBytes : Reply → ℕ
-replyBytes r = (replyLength r + 7) / 8
-
--- the words of the image that a reply shows end before this word
-abbrev pub replyEnd : Reply → ℕ
-replyEnd Silence = 0
-replyEnd (Number n) = 0
-replyEnd (Success h) = 0
-replyEnd (Words i k h) = i + k
-replyEnd (Error e h) = 0

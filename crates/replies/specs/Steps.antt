@@ -2,6 +2,12 @@
 use Prim.Native.Nat.{ℕ, zero, suc, _+_, _*_, _/_, _%_, _^_}
 use mathlib.Core.List.{List}
 use lib.ListN.{set}
+use Rattle.replies.specs.declared.Reply.{Reply}
+use Rattle.replies.specs.Replies.{replyLength}
+
+-- the bytes that a reply takes
+abbrev pub replyBytes : Reply → ℕ
+replyBytes r = (replyLength r + 7) / 8
 
 -- a room with the k low bytes of v from byte i on, the highest first
 unfoldable pub withBytes : ℕ → List ℕ → ℕ → ℕ → List ℕ

@@ -7,8 +7,9 @@ use Rattle.image.specs.declared.Layout.{Layout}
 use Rattle.image.specs.Layout.{blocksIn}
 use Rattle.image.specs.Worked.{worked, workedLayout}
 use Rattle.frames.specs.Frames.{span}
-use Rattle.rights.specs.declared.Code.the-variants as code
-use Rattle.rights.specs.Rights.{pastEnd, noRight, other, readCode, writeCode, lockedTo, lockCode, permaReadCode, permaCode}
+use Rattle.rights.specs.declared.Code.the-variants.{Nothing, Error}
+use Rattle.rights.specs.declared.Fault.the-variants.{Other, PastEnd, NoRight}
+use Rattle.rights.specs.Rights.{readCode, writeCode, lockedTo, lockCode, permaReadCode, permaCode}
 
 -- the worked layout with a USER of 32 words, twice as many as can be stored at once
 abbrev wide : Layout
@@ -26,25 +27,25 @@ wide =
 
 -- Write, BlockWrite and BlockErase
 pub record Writes : Type 0 where
-  pub user-15 : writeCode workedLayout worked false (span 3 15 1) 0 ≡ code.Nothing
-  pub user-16 : writeCode workedLayout worked false (span 3 16 1) 0 ≡ pastEnd
-  pub words-16 : writeCode workedLayout worked false (span 3 0 16) 0 ≡ code.Nothing
-  pub words-17 : writeCode workedLayout worked false (span 3 0 17) 0 ≡ pastEnd
-  pub over-w : writeCode wide worked false (span 3 0 17) 0 ≡ other
-  pub l-is-2 : writeCode workedLayout worked false (span 1 1 1) 0x1000 ≡ code.Nothing
-  pub l-is-3 : writeCode workedLayout worked false (span 1 1 1) 0x1800 ≡ pastEnd
-  pub l-is-3-elsewhere : writeCode workedLayout worked false (span 1 2 2) 0x1800 ≡ code.Nothing
-  pub epc-0 : writeCode workedLayout worked true (span 1 0 2) 0x1000 ≡ noRight
-  pub tid-0 : writeCode workedLayout worked true (span 2 0 1) 0 ≡ noRight
-  pub block-0-locked : writeCode workedLayout (withWord worked 44 0x8000) true (span 3 3 1) 0 ≡ noRight
-  pub block-1-open : writeCode workedLayout (withWord worked 44 0x8000) true (span 3 4 4) 0 ≡ code.Nothing
-  pub one-word-locked : writeCode workedLayout (withWord worked 44 0x8000) true (span 3 3 2) 0 ≡ noRight
-  pub user-01 : writeCode workedLayout (withWord worked 16 0x001) false (span 3 0 1) 0 ≡ code.Nothing
-  pub user-10 : writeCode workedLayout (withWord worked 16 0x002) false (span 3 0 1) 0 ≡ noRight
-  pub user-10-secured : writeCode workedLayout (withWord worked 16 0x002) true (span 3 0 1) 0 ≡ code.Nothing
-  pub user-11 : writeCode workedLayout (withWord worked 16 0x003) true (span 3 0 1) 0 ≡ noRight
-  pub access-11 : writeCode workedLayout (withWord worked 16 0x0C0) true (span 0 1 1) 0 ≡ code.Nothing
-  pub access-11-taken : writeCode workedLayout (withWord worked 16 0x0C0) true (span 0 1 2) 0 ≡ noRight
+  pub user-15 : writeCode workedLayout worked false (span 3 15 1) 0 ≡ Nothing
+  pub user-16 : writeCode workedLayout worked false (span 3 16 1) 0 ≡ Error PastEnd
+  pub words-16 : writeCode workedLayout worked false (span 3 0 16) 0 ≡ Nothing
+  pub words-17 : writeCode workedLayout worked false (span 3 0 17) 0 ≡ Error PastEnd
+  pub over-w : writeCode wide worked false (span 3 0 17) 0 ≡ Error Other
+  pub l-is-2 : writeCode workedLayout worked false (span 1 1 1) 0x1000 ≡ Nothing
+  pub l-is-3 : writeCode workedLayout worked false (span 1 1 1) 0x1800 ≡ Error PastEnd
+  pub l-is-3-elsewhere : writeCode workedLayout worked false (span 1 2 2) 0x1800 ≡ Nothing
+  pub epc-0 : writeCode workedLayout worked true (span 1 0 2) 0x1000 ≡ Error NoRight
+  pub tid-0 : writeCode workedLayout worked true (span 2 0 1) 0 ≡ Error NoRight
+  pub block-0-locked : writeCode workedLayout (withWord worked 44 0x8000) true (span 3 3 1) 0 ≡ Error NoRight
+  pub block-1-open : writeCode workedLayout (withWord worked 44 0x8000) true (span 3 4 4) 0 ≡ Nothing
+  pub one-word-locked : writeCode workedLayout (withWord worked 44 0x8000) true (span 3 3 2) 0 ≡ Error NoRight
+  pub user-01 : writeCode workedLayout (withWord worked 16 0x001) false (span 3 0 1) 0 ≡ Nothing
+  pub user-10 : writeCode workedLayout (withWord worked 16 0x002) false (span 3 0 1) 0 ≡ Error NoRight
+  pub user-10-secured : writeCode workedLayout (withWord worked 16 0x002) true (span 3 0 1) 0 ≡ Nothing
+  pub user-11 : writeCode workedLayout (withWord worked 16 0x003) true (span 3 0 1) 0 ≡ Error NoRight
+  pub access-11 : writeCode workedLayout (withWord worked 16 0x0C0) true (span 0 1 1) 0 ≡ Nothing
+  pub access-11-taken : writeCode workedLayout (withWord worked 16 0x0C0) true (span 0 1 2) 0 ≡ Error NoRight
 
 pub writes : Writes
 unfolding writeCode worked wordAt withWord
@@ -73,12 +74,12 @@ writes =
 
 -- Read
 pub record Reads : Type 0 where
-  pub kill-10 : readCode workedLayout (withWord worked 16 0x200) false (span 0 1 1) ≡ noRight
-  pub kill-10-secured : readCode workedLayout (withWord worked 16 0x200) true (span 0 1 1) ≡ code.Nothing
-  pub kill-10-to-end : readCode workedLayout (withWord worked 16 0x200) false (span 0 2 0) ≡ code.Nothing
-  pub kill-10-from-1 : readCode workedLayout (withWord worked 16 0x200) false (span 0 1 0) ≡ noRight
-  pub at-end : readCode workedLayout worked true (span 0 4 0) ≡ pastEnd
-  pub user-11 : readCode workedLayout (withWord worked 16 0x003) false (span 3 0 0) ≡ code.Nothing
+  pub kill-10 : readCode workedLayout (withWord worked 16 0x200) false (span 0 1 1) ≡ Error NoRight
+  pub kill-10-secured : readCode workedLayout (withWord worked 16 0x200) true (span 0 1 1) ≡ Nothing
+  pub kill-10-to-end : readCode workedLayout (withWord worked 16 0x200) false (span 0 2 0) ≡ Nothing
+  pub kill-10-from-1 : readCode workedLayout (withWord worked 16 0x200) false (span 0 1 0) ≡ Error NoRight
+  pub at-end : readCode workedLayout worked true (span 0 4 0) ≡ Error PastEnd
+  pub user-11 : readCode workedLayout (withWord worked 16 0x003) false (span 3 0 0) ≡ Nothing
 
 pub reads : Reads
 unfolding readCode worked wordAt withWord
@@ -86,17 +87,17 @@ reads = record { kill-10 = refl; kill-10-secured = refl; kill-10-to-end = refl; 
 
 -- Lock and BlockPermalock
 pub record Locks : Type 0 where
-  pub pwd-of-11 : lockCode workedLayout (withWord worked 16 0x003) 0x002 0x000 ≡ noRight
-  pub pwd-of-01 : lockCode workedLayout (withWord worked 16 0x001) 0x002 0x002 ≡ noRight
-  pub user-to-01 : lockCode workedLayout worked 0x001 0x001 ≡ code.Nothing
-  pub user-to-01-locked : lockCode workedLayout (withWord worked 44 0x1000) 0x001 0x001 ≡ noRight
-  pub user-at-01-locked : lockCode workedLayout (withWord (withWord worked 44 0x1000) 16 0x001) 0x020 0x020 ≡ code.Nothing
-  pub block-3 : permaCode workedLayout worked (span 3 0 1) (0x10 ∷ 0x00 ∷ []) 0 ≡ code.Nothing
-  pub block-4 : permaCode workedLayout worked (span 3 0 1) (0x08 ∷ 0x00 ∷ []) 0 ≡ pastEnd
-  pub epc : permaCode workedLayout worked (span 1 0 1) (0x10 ∷ 0x00 ∷ []) 0 ≡ pastEnd
-  pub user-01 : permaCode workedLayout (withWord worked 16 0x001) (span 3 0 1) (0x10 ∷ 0x00 ∷ []) 0 ≡ noRight
-  pub first-range : permaReadCode workedLayout (span 3 0 1) ≡ code.Nothing
-  pub second-range : permaReadCode workedLayout (span 3 1 1) ≡ pastEnd
+  pub pwd-of-11 : lockCode workedLayout (withWord worked 16 0x003) 0x002 0x000 ≡ Error NoRight
+  pub pwd-of-01 : lockCode workedLayout (withWord worked 16 0x001) 0x002 0x002 ≡ Error NoRight
+  pub user-to-01 : lockCode workedLayout worked 0x001 0x001 ≡ Nothing
+  pub user-to-01-locked : lockCode workedLayout (withWord worked 44 0x1000) 0x001 0x001 ≡ Error NoRight
+  pub user-at-01-locked : lockCode workedLayout (withWord (withWord worked 44 0x1000) 16 0x001) 0x020 0x020 ≡ Nothing
+  pub block-3 : permaCode workedLayout worked (span 3 0 1) (0x10 ∷ 0x00 ∷ []) 0 ≡ Nothing
+  pub block-4 : permaCode workedLayout worked (span 3 0 1) (0x08 ∷ 0x00 ∷ []) 0 ≡ Error PastEnd
+  pub epc : permaCode workedLayout worked (span 1 0 1) (0x10 ∷ 0x00 ∷ []) 0 ≡ Error PastEnd
+  pub user-01 : permaCode workedLayout (withWord worked 16 0x001) (span 3 0 1) (0x10 ∷ 0x00 ∷ []) 0 ≡ Error NoRight
+  pub first-range : permaReadCode workedLayout (span 3 0 1) ≡ Nothing
+  pub second-range : permaReadCode workedLayout (span 3 1 1) ≡ Error PastEnd
 
 pub locks : Locks
 unfolding lockCode lockedTo permaCode permaReadCode blocksIn worked wordAt withWord

@@ -13,21 +13,19 @@ use Rattle.image.specs.Layout.{blocksIn, pairsIn}
 use Rattle.image.specs.Content.{lockWord, lengthOf, permalock}
 use Rattle.frames.specs.declared.Span.{Span}
 use Rattle.rights.specs.declared.Code.{Code}
-use Rattle.rights.specs.declared.Code.the-variants as code
+use Rattle.rights.specs.declared.Code.the-variants.{Nothing, Error}
+use Rattle.rights.specs.declared.Fault.{Fault}
+use Rattle.rights.specs.declared.Fault.the-variants.{Other, PastEnd, NoRight}
 
 -- the banks by number
 abbrev pub bankOf : Layout → ℕ → Section
 bankOf y b = cond (eqb b 0) (y .reserved) (cond (eqb b 1) (y .epc) (cond (eqb b 2) (y .tid) (y .user)))
 
 -- the error codes
-abbrev pub pastEnd : Code
-pastEnd = code.Error 0x03
-
-abbrev pub noRight : Code
-noRight = code.Error 0x04
-
-abbrev pub other : Code
-other = code.Error 0x00
+abbrev pub faultNumber : Fault → ℕ
+faultNumber Other = 0x00
+faultNumber PastEnd = 0x03
+faultNumber NoRight = 0x04
 
 -- the lock word's pairs: 0 kill, 1 access, 2 EPC, 3 TID, 4 USER from the top, each a pwd bit and a permalock bit
 abbrev pub pwdBit : ℕ → ℕ → ℕ
@@ -60,9 +58,9 @@ mayWrite y m secured b i =
     && not (eqb b 1 && eqb i 0)
     && (not (eqb b 3) || blockOpen y m i)
 
--- the words of a span of the bank b: to its end where the count is 0
-abbrev pub spanWords : Section → Span → ℕ
-spanWords b s = cond (eqb (s .count) 0) (b .words - s .pointer) (s .count)
+-- the words that a Read of a span shows: to the bank's end where the count is 0
+abbrev pub spanWords : Layout → List ℕ → Span → ℕ
+spanWords y m s = cond (eqb (s .count) 0) (bankOf y (s .bank) .words - s .pointer) (s .count)
 
 -- a pointer at or beyond the end of the bank b, or words past it
 abbrev pub beyond : Section → Span → Bool
@@ -72,10 +70,10 @@ beyond b s = leb (b .words) (s .pointer) || ltb (b .words) (s .pointer + s .coun
 unfoldable pub readCode : Layout → List ℕ → Bool → Span → Code
 readCode y m secured s =
     first
-    ((pastEnd, beyond (bankOf y (s .bank)) s)
-    ∷ (noRight, not (every (λ j. mayRead y m secured (s .bank) (s .pointer + j)) (spanWords (bankOf y (s .bank)) s)))
+    ((Error PastEnd, beyond (bankOf y (s .bank)) s)
+    ∷ (Error NoRight, not (every (λ j. mayRead y m secured (s .bank) (s .pointer + j)) (spanWords y m s)))
     ∷ [])
-    code.Nothing
+    Nothing
 
 -- the span takes EPC word 1, the PC, and pc would stand there with a length that the bank can't hold
 abbrev pub badPc : Layout → Span → ℕ → Bool
@@ -85,12 +83,12 @@ badPc y s pc = eqb (s .bank) 1 && leb (s .pointer) 1 && ltb 1 (s .pointer + s .c
 unfoldable pub writeCode : Layout → List ℕ → Bool → Span → ℕ → Code
 writeCode y m secured s pc =
     first
-    ((pastEnd, beyond (bankOf y (s .bank)) s)
-    ∷ (noRight, not (every (λ j. mayWrite y m secured (s .bank) (s .pointer + j)) (s .count)))
-    ∷ (pastEnd, badPc y s pc)
-    ∷ (other, ltb (pairsIn y) (s .count))
+    ((Error PastEnd, beyond (bankOf y (s .bank)) s)
+    ∷ (Error NoRight, not (every (λ j. mayWrite y m secured (s .bank) (s .pointer + j)) (s .count)))
+    ∷ (Error PastEnd, badPc y s pc)
+    ∷ (Error Other, ltb (pairsIn y) (s .count))
     ∷ [])
-    code.Nothing
+    Nothing
 
 -- 3.21: the lock word after a Lock: masked bits are the action's
 unfoldable pub lockedTo : ℕ → ℕ → ℕ → ℕ
@@ -111,24 +109,24 @@ unfoldable pub lockCode : Layout → List ℕ → ℕ → ℕ → Code
 lockCode y m mask action =
     let new = lockedTo (lockWord y m) mask action in
     first
-    ((noRight, not (every (λ k. not (pairBreaks (lockWord y m) new k)) 5))
-    ∷ (noRight, not (eqb (mask % 4) 0) && userOpenForGood new && somePermalock y m)
+    ((Error NoRight, not (every (λ k. not (pairBreaks (lockWord y m) new k)) 5))
+    ∷ (Error NoRight, not (eqb (mask % 4) 0) && userOpenForGood new && somePermalock y m)
     ∷ [])
-    code.Nothing
+    Nothing
 
 -- 3.22: BlockPermalock. Pointer and count are of PERMA words
 abbrev pub notPerma : Layout → Span → Bool
 notPerma y s = not (eqb (s .bank) 3) || ltb (y .perma .words) (s .pointer + s .count)
 
 unfoldable pub permaReadCode : Layout → Span → Code
-permaReadCode y s = first ((pastEnd, notPerma y s) ∷ []) code.Nothing
+permaReadCode y s = first ((Error PastEnd, notPerma y s) ∷ []) Nothing
 
 -- the mask stands in the frame f from bit p on; bit k is for block 16 * pointer + k
 unfoldable pub permaCode : Layout → List ℕ → Span → List ℕ → ℕ → Code
 permaCode y m s f p =
     first
-    ((pastEnd, notPerma y s)
-    ∷ (pastEnd, not (every (λ k. eqb (bitAt f (p + k)) 0 || ltb (16 * s .pointer + k) (blocksIn y)) (16 * s .count)))
-    ∷ (noRight, userOpenForGood (lockWord y m))
+    ((Error PastEnd, notPerma y s)
+    ∷ (Error PastEnd, not (every (λ k. eqb (bitAt f (p + k)) 0 || ltb (16 * s .pointer + k) (blocksIn y)) (16 * s .count)))
+    ∷ (Error NoRight, userOpenForGood (lockWord y m))
     ∷ [])
-    code.Nothing
+    Nothing

@@ -8,7 +8,7 @@ ghost use Rattle.bits.specs.Below.{every};
 ghost use lib.ListN.{length};
 ghost use Rattle.image.specs.Layout.{layoutOf, blocksIn};
 ghost use Rattle.image.specs.Content.{permalock as permalockOf};
-ghost use Rattle.rights.specs.Rights.{bankOf, pwdBit, permaBit, opens as opensOf, pairOf, blockOpen, mayWrite, spanWords, beyond as beyondOf, badPc, readCode, writeCode, lockedTo, pairBreaks, somePermalock, userOpenForGood, lockCode, notPerma, permaReadCode, permaCode};
+ghost use Rattle.rights.specs.Rights.{faultNumber, bankOf, pwdBit, permaBit, opens as opensOf, pairOf, blockOpen, mayWrite, spanWords, beyond as beyondOf, badPc, readCode, writeCode, lockedTo, pairBreaks, somePermalock, userOpenForGood, lockCode, notPerma, permaReadCode, permaCode};
 ghost use Rattle.rights.specs.Steps.{firstLocked, restOpen, entryOf};
 use bits::both;
 use bits::either;
@@ -16,16 +16,34 @@ use frames::Span;
 use image::Layout;
 use image::Section;
 
-// An error code of the standard, or none.
+// The standard's errors that a command can meet.
+pub enum Fault {
+    Other,
+    PastEnd,
+    NoRight,
+}
+
+// An error, or none.
 pub enum Code {
     Nothing,
-    Error(u8),
+    Error(Fault),
 }
 
 // A word that was looked for.
 pub enum Found {
     At(usize),
     Nothing,
+}
+
+// A fault's error code.
+pub fn fault_number(fault: Fault) -> u8
+    ensures { λ r. ⌜ r ≡ faultNumber fault ⌝ }
+{
+    match fault {
+        Fault::Other => 0x00,
+        Fault::PastEnd => 0x03,
+        Fault::NoRight => 0x04,
+    }
 }
 
 // a - b, or 0.
@@ -226,11 +244,13 @@ fn may_write(image: &[u8], y: Layout, secured: bool, b: u16, p: usize, n: usize)
     rest_open(image, y, b, p, n)
 }
 
-// The words of a span of the bank b: to its end where the count is 0.
-pub fn span_words(b: Section, s: Span) -> usize
-    ensures { λ r. ⌜ (r ≡ spanWords b s) × (r < 65536) ⌝ }
+// The words that a Read of a span shows: to the bank's end where the count is 0.
+pub fn span_words(image: &[u8], s: Span) -> usize
+    requires { ⌜ 32 ≤ length (now image) ⌝ }
+    ensures { λ r. ⌜ (r ≡ spanWords (layoutOf (now (image .entry))) (now (image .entry)) s) × (r < 65536) ⌝ }
 {
     if s.count == 0 {
+        let b = bank_in(image, s.bank);
         return minus(b.words as usize, s.pointer as usize);
     }
     s.count as usize
@@ -255,17 +275,17 @@ pub fn read_code(image: &[u8], secured: bool, s: Span) -> Code
 {
     let b = bank_in(image, s.bank);
     if beyond(b, s) {
-        return Code::Error(3);
+        return Code::Error(Fault::PastEnd);
     }
     if s.bank != 0 {
         return Code::Nothing;
     }
     let y = image::read_layout(image);
     let lock = bits::word(image, y.status.at as usize);
-    if reserved_open(secured, lock, s.pointer as usize, span_words(b, s)) {
+    if reserved_open(secured, lock, s.pointer as usize, span_words(image, s)) {
         return Code::Nothing;
     }
-    Code::Error(4)
+    Code::Error(Fault::NoRight)
 }
 
 // The span takes the PC, and pc has a length that the bank can't hold.
@@ -284,7 +304,7 @@ pub fn write_code(image: &[u8], secured: bool, s: Span, pc: u16) -> Code
 {
     let y = image::read_layout(image);
     if beyond(bank_in(image, s.bank), s) {
-        return Code::Error(3);
+        return Code::Error(Fault::PastEnd);
     }
     if !may_write(
         image,
@@ -294,13 +314,13 @@ pub fn write_code(image: &[u8], secured: bool, s: Span, pc: u16) -> Code
         s.pointer as usize,
         s.count as usize,
     ) {
-        return Code::Error(4);
+        return Code::Error(Fault::NoRight);
     }
     if bad_pc(y, s, pc) {
-        return Code::Error(3);
+        return Code::Error(Fault::PastEnd);
     }
     if image::pairs(y) < s.count as usize {
-        return Code::Error(0);
+        return Code::Error(Fault::Other);
     }
     Code::Nothing
 }
@@ -364,7 +384,7 @@ pub fn lock_code(image: &[u8], y: Layout, mask: u16, action: u16) -> Code
     let old = bits::word(image, y.status.at as usize);
     let new = locked(old, mask, action);
     if !pairs_kept(old, new) {
-        return Code::Error(4);
+        return Code::Error(Fault::NoRight);
     }
     if mask % 4 == 0 {
         return Code::Nothing;
@@ -373,7 +393,7 @@ pub fn lock_code(image: &[u8], y: Layout, mask: u16, action: u16) -> Code
         return Code::Nothing;
     }
     if some_permalock(image, y) {
-        return Code::Error(4);
+        return Code::Error(Fault::NoRight);
     }
     Code::Nothing
 }
@@ -393,7 +413,7 @@ pub fn perma_read_code(y: Layout, s: Span) -> Code
     ensures { λ r. ⌜ r ≡ permaReadCode y s ⌝ }
 {
     if not_perma(y, s) {
-        return Code::Error(3);
+        return Code::Error(Fault::PastEnd);
     }
     Code::Nothing
 }
@@ -419,7 +439,7 @@ pub fn perma_code(image: &[u8], y: Layout, s: Span, frame: &[u8], from: usize) -
     ensures { λ r. ⌜ r ≡ permaCode y (now (image .entry)) s (now (frame .entry)) from ⌝ }
 {
     if not_perma(y, s) {
-        return Code::Error(3);
+        return Code::Error(Fault::PastEnd);
     }
     if !mask_fits(
         y,
@@ -428,10 +448,10 @@ pub fn perma_code(image: &[u8], y: Layout, s: Span, frame: &[u8], from: usize) -
         from,
         16 * s.count as usize,
     ) {
-        return Code::Error(3);
+        return Code::Error(Fault::PastEnd);
     }
     if open_for_good(bits::word(image, y.status.at as usize)) {
-        return Code::Error(4);
+        return Code::Error(Fault::NoRight);
     }
     Code::Nothing
 }

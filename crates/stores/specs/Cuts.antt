@@ -1,4 +1,5 @@
--- What a cut leaves (RULES D3), stated over the stores of a change and of power-up: a byte is stored whole or not at all, a word may be torn. Assumes nothing.
+-- What a cut leaves (RULES D3), stated over the stores of a change and of power-up: a byte is stored whole or not at all, a word may be
+-- torn. Assumes nothing.
 use Prim.Native.Nat.{ℕ, suc, _+_, _*_, _≤_, _<_}
 use mathlib.Core.Path.{_≡_}
 use mathlib.Core.Bool.{true, cond}
@@ -19,7 +20,8 @@ pub record Change (y : Layout) (m : List ℕ) (ss : List Store) : Type 0 where
   pub places : All (λ s. mayGo y (s .at) ≡ true) ss
   pub rules : (k : ℕ) → Content y (after m (take k ss))
 
--- where the power fails: so many stores are whole, and of the next one byte is made, if it is one of that store's word; else nothing of it is
+-- where the power fails: so many stores are whole, and of the next one byte is made, if it is one of that store's word; else nothing of
+-- it is
 pub record Cut : Type 0 where
   pub whole : ℕ
   pub byte : ℕ
@@ -43,13 +45,13 @@ cutPowerUps (c ∷ cs) m = cutPowerUps cs (cutPowerUp c m)
 abbrev pub cutImage : Layout → List ℕ → List Store → Cut → List Cut → List ℕ
 cutImage y m ss c cs = cutPowerUps cs (cutAfter c m (changeStores (y .work .at) ss))
 
--- the stores that count as made: the whole ones, and one more where the byte is the low one of the pending count (whatever the next store is: only the
--- count's own, number 2n + 1, takes it past 2n)
+-- the stores that count as made: the whole ones, and one more where the byte is the low one of the pending count (whatever the next store
+-- is: only the count's own, number 2n + 1, takes it past 2n)
 abbrev pub reaches : Layout → Cut → ℕ
 reaches y c = c .whole + cond (eqb (c .byte) (2 * y .work .at + 1)) 1 0
 
--- from a good image with nothing pending: at most 2n stores made, and the first whole power-up leaves every word outside WORK as if the change had never come;
--- more, and as if it had finished. Every image on the way is good.
+-- from a good image with nothing pending: at most 2n stores made, and the first whole power-up leaves every word outside WORK as if the
+-- change had never come; more, and as if it had finished. Every image on the way is good.
 pub record CutLaws (y : Layout) (m : List ℕ) (ss : List Store) : Type 0 where
   pub old : (c : Cut) (cs : List Cut) → reaches y c ≤ 2 * length ss
       → (i : ℕ) → i < y .work .at → wordAt (powerUp (cutImage y m ss c cs)) i ≡ wordAt (powerUp m) i

@@ -24,6 +24,8 @@ use Rattle.bits.specs.Words.{Store}
 use Rattle.rights.proofs.Banks.{bank-end as Banks·bank-end}
 use Rattle.rights.specs.declared.Code.{Code}
 use Rattle.rights.specs.declared.Code.the-variants as code
+use Rattle.rights.specs.declared.Fault.{Fault}
+use Rattle.rights.specs.declared.Fault.the-variants as fault
 use Rattle.bits.specs.Bits.{bitAt, fieldAt}
 use Rattle.bits.specs.Below.{every}
 use Rattle.rights.specs.Rights.{bankOf, beyond, mayWrite, badPc, spanWords, readCode, writeCode, lockedTo, pairBreaks, lockCode, notPerma, permaReadCode, permaCode}
@@ -35,15 +37,18 @@ use Rattle.plans.specs.declared.Plan.{Plan}
 use Rattle.plans.specs.declared.Plan.the-variants as plan
 use Rattle.plans.specs.Effects.{Effect, halfKill, halfAccess, placeOf}
 use Rattle.plans.specs.Steps.{Placed, orError, killBy, planOf}
+use Rattle.tag.specs.declared.Answer.the-variants as answer
 use Rattle.tag.specs.declared.Live.{Live}
 use Rattle.frames.specs.declared.Command.{Command}
 use Rattle.tag.specs.Result.{Result, result}
-use Rattle.states.specs.Commands.{asksOf, linkOf, isSecured, uncovered, wrongCommand, breaks}
-use Rattle.states.specs.Steps.{killCode, accessed}
+use Rattle.states.specs.Commands.{asksOf, linkOf, isSecured, uncovered, wrongBy, breaks}
+use Rattle.states.specs.Steps.{killCode, accessed, wrongCommand}
+use Rattle.states.specs.declared.Who.the-variants as who
+use Rattle.states.proofs.Gates.{passes-handle, not-admitted, not-linked, not-secured}
 use Rattle.tag.specs.Steps.{kept, tellEnd, storeEnd, doneEnd, endBy, sceneOf, droppedWith, movedWith, orderOf, commandOf, Sound, performOf}
 
 -- a row that does not hold, and those after it
-none-row : (b : Bool) (e : ℕ) (rest : Code) → cond b (code.Error e) rest ≡ code.Nothing → (b ≡ false) × (rest ≡ code.Nothing)
+none-row : (b : Bool) (e : Fault) (rest : Code) → cond b (code.Error e) rest ≡ code.Nothing → (b ≡ false) × (rest ≡ code.Nothing)
 none-row true e rest h = absurd (never h)
   where
     never : code.Error e ≡ code.Nothing → ⊥
@@ -93,10 +98,10 @@ module _ (y : Layout) (h : List ℕ) (g : Header y h) where
       → (beyond (bankOf y (s .bank)) s ≡ false) × (s .count ≤ pairsIn y) × (every (λ j. mayWrite y m q (s .bank) (s .pointer + j)) (s .count) ≡ true) × (badPc y s pc ≡ false)
   unfolding writeCode
   write-rows m q s pc e =
-      let a = none-row (beyond (bankOf y (s .bank)) s) 3 _ e in
-      let b = none-row (not (every (λ j. mayWrite y m q (s .bank) (s .pointer + j)) (s .count))) 4 _ (a .1) in
-      let c = none-row (badPc y s pc) 3 _ (b .1) in
-      (a .0, ltb-false _ _ (none-row (ltb (pairsIn y) (s .count)) 0 code.Nothing (c .1) .0), not-false _ (b .0), c .0)
+      let a = none-row (beyond (bankOf y (s .bank)) s) fault.PastEnd _ e in
+      let b = none-row (not (every (λ j. mayWrite y m q (s .bank) (s .pointer + j)) (s .count))) fault.NoRight _ (a .1) in
+      let c = none-row (badPc y s pc) fault.PastEnd _ (b .1) in
+      (a .0, ltb-false _ _ (none-row (ltb (pairsIn y) (s .count)) fault.Other code.Nothing (c .1) .0), not-false _ (b .0), c .0)
 
   perma-fit : (s : Span) → notPerma y s ≡ false → s .pointer + s .count ≤ y .perma .words
   perma-fit s e = ltb-false _ _ (none-or (not (eqb (s .bank) 3)) (ltb (y .perma .words) (s .pointer + s .count)) e .1)
@@ -109,17 +114,17 @@ module _ (y : Layout) (h : List ℕ) (g : Header y h) where
       → (s .pointer + s .count ≤ y .perma .words) × (every (λ k. eqb (bitAt f (p + k)) 0 || ltb (16 * s .pointer + k) (blocksIn y)) (16 * s .count) ≡ true)
   unfolding permaCode
   perma-rows m s f p e =
-      let a = none-row (notPerma y s) 3 _ e in
-      let b = none-row (not (every (λ k. eqb (bitAt f (p + k)) 0 || ltb (16 * s .pointer + k) (blocksIn y)) (16 * s .count))) 3 _ (a .1) in
+      let a = none-row (notPerma y s) fault.PastEnd _ e in
+      let b = none-row (not (every (λ k. eqb (bitAt f (p + k)) 0 || ltb (16 * s .pointer + k) (blocksIn y)) (16 * s .count))) fault.PastEnd _ (a .1) in
       (perma-fit s (a .0), not-false _ (b .0))
 
   pub lock-rows : (m : List ℕ) (mask action : ℕ) → lockCode y m mask action ≡ code.Nothing
       → every (λ k. not (pairBreaks (lockWord y m) (lockedTo (lockWord y m) mask action) k)) 5 ≡ true
   unfolding lockCode
-  lock-rows m mask action e = not-false _ (none-row (not (every (λ k. not (pairBreaks (lockWord y m) (lockedTo (lockWord y m) mask action) k)) 5)) 4 _ e .0)
+  lock-rows m mask action e = not-false _ (none-row (not (every (λ k. not (pairBreaks (lockWord y m) (lockedTo (lockWord y m) mask action) k)) 5)) fault.NoRight _ e .0)
 
-  span-end : (s : Span) → beyond (bankOf y (s .bank)) s ≡ false → s .pointer + spanWords (bankOf y (s .bank)) s ≤ bankOf y (s .bank) .words
-  span-end s e = go (eqb (s .count) 0)
+  span-end : (m : List ℕ) (s : Span) → beyond (bankOf y (s .bank)) s ≡ false → s .pointer + spanWords y m s ≤ bankOf y (s .bank) .words
+  span-end m s e = go (eqb (s .count) 0)
     where
       go : (b : Bool) → s .pointer + cond b (bankOf y (s .bank) .words - s .pointer) (s .count) ≤ bankOf y (s .bank) .words
       go true = omega (arith, within-bank s e)
@@ -127,9 +132,9 @@ module _ (y : Layout) (h : List ℕ) (g : Header y h) where
 
   module _ (m : List ℕ) (q : Bool) where
     -- the words of a Read, and of a BlockPermalock that reads
-    pub read-fits : (s : Span) → readCode y m q s ≡ code.Nothing → (2 * (placeOf y s + spanWords (bankOf y (s .bank)) s) ≤ length h) × (spanWords (bankOf y (s .bank)) s < 65536)
+    pub read-fits : (s : Span) → readCode y m q s ≡ code.Nothing → (2 * (placeOf y s + spanWords y m s) ≤ length h) × (spanWords y m s < 65536)
     read-fits s e =
-        let r = span-end s (read-rows m q s e) in
+        let r = span-end m s (read-rows m q s e) in
         (omega (arith, r, bank-end (s .bank), g .whole), omega (arith, r, bank-end (s .bank), work-small))
 
     pub read-perma-fits : (s : Span) → permaReadCode y s ≡ code.Nothing → (2 * (y .perma .at + s .pointer + s .count) ≤ length h) × (s .count < 65536)
@@ -216,6 +221,7 @@ module _ (y : Layout) (m f : List ℕ) (st : State) (g : Header y m) where
   kill-sound h (half.Kill up) = killed-held y m g
 
   pub plan-sound : (fresh : ℕ) (o : Order) → Placed o → Sound (y .work .at) (length m) (planOf y m f fresh st o)
+  plan-sound fresh order.Nak q = tt
   plan-sound fresh order.ReqRn q = tt
   plan-sound fresh (order.Read s) q = code-sound _ _ (readCode y m (isSecured st) s) _ (read-fits y m g m (isSecured st) s)
   plan-sound fresh (order.Write s w) q = code-sound _ _ (writeCode y m (isSecured st) s (uncovered (linkOf st .cover) w)) _ (word-held y m g m (isSecured st) s _)
@@ -258,6 +264,7 @@ module _ (l : Live) (y : Layout) (m f : List ℕ) (fresh : ℕ) (room : List ℕ
 
   pub plan-performs : (o : Order) → performOf l (linkOf (l .state) .handle) y m f room s (planOf y m f fresh (l .state) o) ≡ orderOf l y m f fresh room s o
   unfolding handle perform ends
+  plan-performs order.Nak = refl
   plan-performs order.ReqRn = refl
   plan-performs (order.Read p) = code-performs (readCode y m (isSecured (l .state)) p) _ _ refl
   plan-performs (order.Write p w) = code-performs (writeCode y m (isSecured (l .state)) p (uncovered (linkOf (l .state) .cover) w)) _ _ refl
@@ -269,20 +276,40 @@ module _ (l : Live) (y : Layout) (m f : List ℕ) (fresh : ℕ) (room : List ℕ
   plan-performs (order.ReadPermalock r p) = code-performs (permaReadCode y p) _ _ refl
   plan-performs (order.Permalock r p b) = code-performs (permaCode y m p f b) _ _ refl
 
+  handled : (n : ℕ) (o : Order) → wrongBy (l .state) n (asksOf o) ≡ false → (asksOf o .who ≡ who.Everyone → ⊥)
+      → performOf l n y m f room s (planOf y m f fresh (l .state) o) ≡ orderOf l y m f fresh room s o
+  handled n o w h =
+      ap (λ (k : ℕ). performOf l k y m f room s (planOf y m f fresh (l .state) o)) (passes-handle (l .state) (asksOf o) n w h) ∙ plan-performs o
+
+  -- NAK's plan needs no handle; every other order that passes carries it
+  pub handle-performs : (n : ℕ) (o : Order) → wrongBy (l .state) n (asksOf o) ≡ false
+      → performOf l n y m f room s (planOf y m f fresh (l .state) o) ≡ orderOf l y m f fresh room s o
+  handle-performs n order.Nak w = refl
+  handle-performs n order.ReqRn w = handled n order.ReqRn w not-admitted
+  handle-performs n (order.Read p) w = handled n (order.Read p) w not-linked
+  handle-performs n (order.Write p v) w = handled n (order.Write p v) w not-linked
+  handle-performs n (order.Kill h) w = handled n (order.Kill h) w not-linked
+  handle-performs n (order.Lock mask action) w = handled n (order.Lock mask action) w not-secured
+  handle-performs n (order.Access h) w = handled n (order.Access h) w not-linked
+  handle-performs n (order.BlockWrite p b) w = handled n (order.BlockWrite p b) w not-linked
+  handle-performs n (order.BlockErase p) w = handled n (order.BlockErase p) w not-linked
+  handle-performs n (order.ReadPermalock r p) w = handled n (order.ReadPermalock r p) w not-secured
+  handle-performs n (order.Permalock r p b) w = handled n (order.Permalock r p b) w not-secured
+
 -- a command's three ways: wrong, broken, or by its order
 module _ (l : Live) (y : Layout) (m f : List ℕ) (fresh : ℕ) (room : List ℕ) (s : ℕ) (c : Command) where
   broken : Bool
   broken = breaks y m (linkOf (l .state)) (linkOf (l .state) .half) (asksOf (c .order) .part)
 
   past : Bool → Result
-  past t = cond t (result (droppedWith l) m room) (orderOf l y m f fresh room s (c .order))
+  past t = cond t (result (droppedWith l answer.Password) m room) (orderOf l y m f fresh room s (c .order))
 
   pub command-wrong : wrongCommand (l .state) c ≡ true → kept 9 l m room ≡ commandOf l y m f fresh room s c
   unfolding commandOf broken past
   command-wrong e = sym (ap (λ (b : Bool). cond b (kept 9 l m room) (past broken)) e)
 
   pub command-broken : wrongCommand (l .state) c ≡ false → breaks y m (linkOf (l .state)) (linkOf (l .state) .half) (asksOf (c .order) .part) ≡ true
-      → result (droppedWith l) m room ≡ commandOf l y m f fresh room s c
+      → result (droppedWith l answer.Password) m room ≡ commandOf l y m f fresh room s c
   unfolding commandOf broken past
   command-broken e b = sym (ap (λ (t : Bool). cond t (kept 9 l m room) (past broken)) e ∙ ap past b)
 

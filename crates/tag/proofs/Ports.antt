@@ -19,12 +19,8 @@ use Rattle.bits.proofs.Windows.{field-word}
 use Rattle.image.specs.declared.Layout.{Layout}
 use Rattle.image.specs.Layout.{layoutOf, pairsIn}
 use Rattle.image.specs.Content.{countIn, lockWord}
-use Rattle.image.specs.Check.{refused, good, rowOf, short, headerWrong, contentBroken, checkOf}
-use Rattle.image.specs.Rules.{Header, Good}
+use Rattle.image.specs.Rules.{Header}
 use Rattle.image.specs.Steps.{readyRow}
-use Rattle.image.proofs.Answers.{ready-none, row-0}
-use Rattle.image.proofs.Answers.{row-ready as Answers·row-ready}
-use Rattle.image.proofs.Answers.{row-pending as Answers·row-pending}
 use Rattle.rights.specs.Rights.{pwdBit, blockOpen}
 use Rattle.rights.proofs.Searches.{block-alike}
 use Rattle.replies.specs.Pack.{packed}
@@ -36,13 +32,14 @@ use Rattle.tag.specs.declared.Power.{Power}
 use Rattle.tag.specs.declared.Power.the-variants as power
 use Rattle.tag.specs.declared.Session.{Session}
 use Rattle.tag.specs.Session.{offSession}
-use Rattle.tag.specs.Result.{Result, leaves, gives}
+use Rattle.tag.specs.Result.{Result, leaves, lost, firstOf}
 use Rattle.states.specs.Commands.{isKilled, accessWord}
 use Rattle.tag.specs.Table.{isOff, liveOf}
-use Rattle.tag.specs.Steps.{kept, neededFor, onSession}
+use Rattle.tag.specs.Steps.{gives, kept, neededFor, onSession, heldRow, frontRow}
 use Rattle.tag.specs.Port.{bitOf, registerTo, withKilled, withUnwritten, badCount, badData, readBits, readOf, portOpen, portWrites, writtenWords, portWords, someUnwritten, writeOf}
-use Rattle.tag.specs.PortSteps.{gated, heldRow, endRow, readRow, afterKilled, writeEnd, passing, Masked}
+use Rattle.tag.specs.PortSteps.{endRow, readRow, readRoom, afterKilled, writeEnd, passing, Masked}
 use Rattle.tag.proofs.Plans.{none-or}
+use Rattle.tag.proofs.Fronts.{ownRow, held-own, Passed, front-few, front-passes, front-stops, front-over}
 
 -- the first of three tests that holds
 module _ (a b c : Bool) where
@@ -107,87 +104,17 @@ pairs-in y m at d g e =
     let b = fits-count y at (length d / 2) (a .0) in
     (omega (arith, b .1), omega (arith, b .2), omega arith, omega (arith, g .whole, g .work .least, a .1))
 
--- 5, 6 and 13 of a session under power
-module _ (l : Live) (y : Layout) (m room : List ℕ) (bad : Bool) (rest : Result) where
-  past-5 : Bool → Bool → Result
-  past-5 a b = cond a (kept 6 l m room) (cond b (kept 13 l m room) rest)
+-- a number that is the first of two that is not 0
+pub row-zero : (a b : ℕ) {r : ℕ} → r ≡ cond (eqb a 0) b a → r ≡ 0 → (a ≡ 0) × (b ≡ 0)
+row-zero a b {r} e z = go (eqb a 0) refl
+  where
+    go : (t : Bool) → eqb a 0 ≡ t → (a ≡ 0) × (b ≡ 0)
+    go true q = (eqb-true a 0 q, sym (ap (λ (t : Bool). cond t b a) q) ∙ sym e ∙ z)
+    go false q = absurd (eqb-false a 0 q (sym (ap (λ (t : Bool). cond t b a) q) ∙ sym e ∙ z))
 
-  from-5 : Bool → Result
-  from-5 z = cond (not z) (kept 5 l m room) (past-5 (not (l .held)) bad)
-
-  pub gated-pending : (countIn y m ≡ 0 → ⊥) → kept 5 l m room ≡ gated l y m room bad rest
-  unfolding gated past-5 from-5
-  gated-pending h = sym (ap from-5 (ne-eqb (countIn y m) 0 h))
-
-  ready : countIn y m ≡ 0 → past-5 (not (l .held)) bad ≡ gated l y m room bad rest
-  unfolding gated past-5 from-5
-  ready z = sym (ap from-5 (eq-eqb (countIn y m) 0 z))
-
-  pub gated-free : countIn y m ≡ 0 → not (l .held) ≡ true → kept 6 l m room ≡ gated l y m room bad rest
-  unfolding past-5
-  gated-free z h = sym (ap (λ (a : Bool). past-5 a bad) h) ∙ ready z
-
-  pub gated-bad : countIn y m ≡ 0 → not (l .held) ≡ false → bad ≡ true → kept 13 l m room ≡ gated l y m room bad rest
-  unfolding past-5
-  gated-bad z h b = sym (ap₂ past-5 h b) ∙ ready z
-
-  pub gated-on : countIn y m ≡ 0 → not (l .held) ≡ false → bad ≡ false → rest ≡ gated l y m room bad rest
-  unfolding past-5
-  gated-on z h b = sym (ap₂ past-5 h b) ∙ ready z
-
-past-three : (a b c : Bool) (x y z w : Result) → a ≡ false → b ≡ false → c ≡ false → cond a x (cond b y (cond c z w)) ≡ w
-past-three a b c x y z w p q r = rw (p, q, r)
-
--- a read's numbers by tests alone: the check's, the port's, the last ones, and all in order
-abbrev checkRow : Bool → Bool → Bool → ℕ
-checkRow a b c = cond a 1 (cond b 2 (cond c 3 0))
-
-abbrev portRow : Bool → ℕ
-portRow b = cond b 0 6
-
+-- 13 and 4 of a read
 abbrev lastRow : Bool → Bool → ℕ
 lastRow f g = cond f 13 (cond g 4 0)
-
-abbrev rowBy : ℕ → Bool → ℕ → ℕ → ℕ
-rowBy v w h k = cond (not (eqb v 0)) v (cond w 5 (cond (not (eqb h 0)) h k))
-
-unfoldable firstRow : Bool → Bool → Bool → Bool → Bool → Bool → Bool → ℕ
-firstRow a b c d e f g = cond a 1 (cond b 2 (cond c 3 (cond d 5 (cond e 6 (cond f 13 (cond g 4 0))))))
-
--- the number as the code finds it
-module _ (h v : ℕ) (m : List ℕ) (at count n : ℕ) where
-  pub row-checked : (v ≡ 0 → ⊥) → v ≡ readRow h v m at count n
-  unfolding readRow
-  row-checked z = rw (ne-eqb v 0 z)
-
-  module _ (z : v ≡ 0) where
-    pub row-pending : not (eqb (countIn (layoutOf m) m) 0) ≡ true → 5 ≡ readRow h v m at count n
-    unfolding readRow
-    row-pending w = rw (eq-eqb v 0 z, w)
-
-    pub row-held : not (eqb (countIn (layoutOf m) m) 0) ≡ false → (h ≡ 0 → ⊥) → h ≡ readRow h v m at count n
-    unfolding readRow
-    row-held w o = rw (eq-eqb v 0 z, w, ne-eqb h 0 o)
-
-    pub row-last : not (eqb (countIn (layoutOf m) m) 0) ≡ false → h ≡ 0 → endRow (layoutOf m) at count n ≡ readRow h v m at count n
-    unfolding readRow
-    row-last w o = rw (eq-eqb v 0 z, w, eq-eqb h 0 o)
-
-pub none-waits : {n : ℕ} → n ≡ 0 → not (eqb n 0) ≡ false
-none-waits {n} z = ap not (eq-eqb n 0 z)
-
--- the number that an image alone decides is the first row's, where it is not 0
-pub row-ready : (h : ℕ) (m : List ℕ) (at count n : ℕ) {v : ℕ} → v ≡ readyRow m → (v ≡ 0 → ⊥) → v ≡ readRow h (rowOf (checkOf m)) m at count n
-row-ready h m at count n {v} e z = go (eqb v 5) (eqb (countIn (layoutOf m) m) 0) refl refl
-  where
-    go : (a b : Bool) → eqb v 5 ≡ a → eqb (countIn (layoutOf m) m) 0 ≡ b → v ≡ readRow h (rowOf (checkOf m)) m at count n
-    go false b p q =
-        let k = Answers·row-ready m e (eqb-false v 5 p) in
-        k ∙ row-checked h (rowOf (checkOf m)) m at count n (λ o. z (k ∙ o))
-    go true false p q =
-        let five = eqb-true v 5 p in
-        five ∙ row-pending h (rowOf (checkOf m)) m at count n (Answers·row-pending m (sym e ∙ five)) (ap not q)
-    go true true p q = absurd (z (e ∙ ready-none m (eqb-true (countIn (layoutOf m) m) 0 q) (Answers·row-pending m (sym e ∙ eqb-true v 5 p))))
 
 module _ (y : Layout) (at count n : ℕ) where
   pub end-bad : badCount y at count ≡ true → 13 ≡ endRow y at count n
@@ -202,148 +129,121 @@ module _ (y : Layout) (at count n : ℕ) where
   unfolding endRow
   end-fits e h = sym (ap₂ lastRow e (le-ltb n (2 * count) h))
 
--- a number that is none of the first seven
-other : (k n : ℕ) → k ≤ n → (n ≡ k → ⊥) → k < n
-other k n h z = omega (arith, z)
-
-pub over-six : (n : ℕ) → (n ≡ 0 → ⊥) → (n ≡ 1 → ⊥) → (n ≡ 2 → ⊥) → (n ≡ 3 → ⊥) → (n ≡ 4 → ⊥) → (n ≡ 5 → ⊥) → (n ≡ 6 → ⊥) → 6 < n
-over-six n a b c d e f g =
-    other 6 n (other 5 n (other 4 n (other 3 n (other 2 n (other 1 n (other 0 n (least n) a) b) c) d) e) f) g
-  where
-    least : (n : ℕ) → 0 ≤ n
-    least n = omega arith
-
--- 13 is the only one over 6
-first-answers : (a b c d e f g : Bool) → 6 < firstRow a b c d e f g → firstRow a b c d e f g ≡ 13
-unfolding firstRow
-first-answers true b c d e f g h = absurd (omega arith)
-first-answers false true c d e f g h = absurd (omega arith)
-first-answers false false true d e f g h = absurd (omega arith)
-first-answers false false false true e f g h = absurd (omega arith)
-first-answers false false false false true f g h = absurd (omega arith)
-first-answers false false false false false true g h = refl
-first-answers false false false false false false true h = absurd (omega arith)
-first-answers false false false false false false false h = absurd (omega arith)
-
--- the number of a read's answer, from what its rows ask
-module _ (m : List ℕ) (at count : ℕ) (room : List ℕ) where
-  checked : {v : ℕ} → v ≡ rowOf (checkOf m) → v ≡ checkRow (short m) (headerWrong m) (contentBroken m)
-  unfolding checkOf
-  checked e = e ∙ go (short m) (headerWrong m) (contentBroken m)
+  -- what 0 leaves of them
+  pub end-zero : endRow y at count n ≡ 0 → (badCount y at count ≡ false) × (2 * count ≤ n)
+  unfolding endRow
+  end-zero z = go (badCount y at count) (ltb n (2 * count)) refl refl z
     where
-      go : (a b c : Bool) → rowOf (cond a (refused 1) (cond b (refused 2) (cond c (refused 3) (good (layoutOf m))))) ≡ checkRow a b c
-      go true b c = refl
-      go false true c = refl
-      go false false true = refl
-      go false false false = refl
+      go : (f g : Bool) → badCount y at count ≡ f → ltb n (2 * count) ≡ g → lastRow f g ≡ 0 → (badCount y at count ≡ false) × (2 * count ≤ n)
+      go true g p q h = absurd (omega arith)
+      go false true p q h = absurd (omega arith)
+      go false false p q h = (p, ltb-false n (2 * count) q)
 
-  by-rows : (p : Power) {h v r : ℕ} → h ≡ heldRow p → v ≡ rowOf (checkOf m) → r ≡ readRow h v m at count (length room)
-      → r ≡ firstRow (short m) (headerWrong m) (contentBroken m) (isOff p || not (eqb (countIn (layoutOf m) m) 0)) (not (liveOf p .held)) (badCount (layoutOf m) at count) (ltb (length room) (2 * count))
-  unfolding readRow endRow firstRow
-  by-rows p {h} {v} {r} o e q =
-      q
-      ∙ ap (λ (k : ℕ). rowBy v (not (eqb (countIn (layoutOf m) m) 0)) k (lastRow (badCount (layoutOf m) at count) (ltb (length room) (2 * count)))) o
-      ∙ ap (λ (k : ℕ). rowBy k (not (eqb (countIn (layoutOf m) m) 0)) (heldRow p) (lastRow (badCount (layoutOf m) at count) (ltb (length room) (2 * count)))) (checked e)
-      ∙ go p (short m) (headerWrong m) (contentBroken m) (not (eqb (countIn (layoutOf m) m) 0)) (badCount (layoutOf m) at count) (ltb (length room) (2 * count))
+-- a read's number and room as the code finds them
+module _ (h : ℕ) (m : List ℕ) (at count n : ℕ) where
+  pub row-front : {v : ℕ} → v ≡ frontRow h m → (v ≡ 0 → ⊥) → v ≡ readRow h m at count n
+  unfolding readRow
+  row-front {v} e z = let t : eqb (frontRow h m) 0 ≡ false = ne-eqb (frontRow h m) 0 (λ k. z (e ∙ k)) in e ∙ rw t
+
+  pub row-end : frontRow h m ≡ 0 → endRow (layoutOf m) at count n ≡ readRow h m at count n
+  unfolding readRow
+  row-end z = let t : eqb (frontRow h m) 0 ≡ true = eq-eqb (frontRow h m) 0 z in rw t
+
+  pub row-none : readRow h m at count n ≡ 0 → (frontRow h m ≡ 0) × (endRow (layoutOf m) at count n ≡ 0)
+  unfolding readRow
+  row-none z = row-zero (frontRow h m) (endRow (layoutOf m) at count n) refl z
+
+  pub own-zero : frontRow h m ≡ 0 → h ≡ 0
+  unfolding frontRow
+  own-zero z = row-zero (readyRow m) h refl z .1
+
+  pub ready-front : frontRow h m ≡ 0 → readyRow m ≡ 0
+  unfolding frontRow
+  ready-front z = row-zero (readyRow m) h refl z .0
+
+module _ (killed : Bool) (m : List ℕ) (at count : ℕ) (room : List ℕ) where
+  pub room-kept : {r : ℕ} → (r ≡ 0 → ⊥) → room ≡ readRoom r killed m at count room
+  unfolding readRoom
+  room-kept {r} z = let t : eqb r 0 ≡ false = ne-eqb r 0 z in rw t
+
+  pub room-shown : {r : ℕ} → r ≡ 0 → readRoom r killed m at count room ≡ packed (readBits (layoutOf m) m killed at count) room
+  unfolding readRoom
+  room-shown {r} z = let t : eqb r 0 ≡ true = eq-eqb r 0 z in rw t
+
+-- the table of a read, from its number
+module _ (m : List ℕ) (at count : ℕ) (room : List ℕ) (v : Session) {h r : ℕ} (holds : h ≡ heldRow (v .power)) (row : r ≡ readRow h m at count (length room)) where
+  pub read-few : r ≤ 13
+  unfolding readRow endRow
+  read-few = go (eqb (frontRow h m) 0) (badCount (layoutOf m) at count) (ltb (length room) (2 * count)) row
     where
-      last : (h w f g : Bool) → rowBy 0 w (portRow h) (lastRow f g) ≡ firstRow false false false w (not h) f g
-      last h true f g = refl
-      last true false f g = refl
-      last false false f g = refl
+      go : (t f g : Bool) → r ≡ cond t (lastRow f g) (frontRow h m) → r ≤ 13
+      go true true g e = omega arith
+      go true false true e = omega arith
+      go true false false e = omega arith
+      go false f g e = omega (arith, e, front-few v m (not (liveOf (v .power) .held)) (holds ∙ held-own (v .power)) refl)
 
-      go : (p : Power) (a b c w f g : Bool) → rowBy (checkRow a b c) w (heldRow p) (lastRow f g) ≡ firstRow a b c (isOff p || w) (not (liveOf p .held)) f g
-      go p true b c w f g = refl
-      go p false true c w f g = refl
-      go p false false true w f g = refl
-      go power.Off false false false true f g = refl
-      go power.Off false false false false f g = refl
-      go (power.On l) false false false w f g = last (l .held) w f g
+  pub read-stops : (r ≡ 0 → ⊥) → leaves r v m room ≡ firstOf (readOf v m at count room)
+  unfolding readOf readRow endRow
+  read-stops z = go (eqb (frontRow h m) 0) refl
+    where
+      own : h ≡ ownRow (v .power) (not (liveOf (v .power) .held))
+      own = holds ∙ held-own (v .power)
 
-  -- what a read of row 0 found: no row holds
-  none : (a b c d e f g : Bool) → firstRow a b c d e f g ≡ 0
-      → (a ≡ false) × (b ≡ false) × (c ≡ false) × (d ≡ false) × (e ≡ false) × (f ≡ false) × (g ≡ false)
-  unfolding firstRow
-  none true b c d e f g h = absurd (omega arith)
-  none false true c d e f g h = absurd (omega arith)
-  none false false true d e f g h = absurd (omega arith)
-  none false false false true e f g h = absurd (omega arith)
-  none false false false false true f g h = absurd (omega arith)
-  none false false false false false true g h = absurd (omega arith)
-  none false false false false false false true h = absurd (omega arith)
-  none false false false false false false false h = (refl, refl, refl, refl, refl, refl, refl)
+      last : (f g : Bool) (x : Result) → (lastRow f g ≡ 0 → ⊥) → leaves (lastRow f g) v m room ≡ cond f (leaves 13 v m room) (cond g (leaves 4 v m room) x)
+      last true g x n = refl
+      last false true x n = refl
+      last false false x n = absurd (n refl)
 
-  module _ (s : Session) {h v r : ℕ} (holds : h ≡ heldRow (s .power)) (checks : v ≡ rowOf (checkOf m)) (row : r ≡ readRow h v m at count (length room)) where
-    pub read-answers : 6 < r → r ≡ 13
-    read-answers h =
-        let k = by-rows (s .power) holds checks row in
-        k ∙ first-answers _ _ _ _ _ _ _ (subst (λ (n : ℕ). 6 < n) k h)
+      go : (t : Bool) → eqb (frontRow h m) 0 ≡ t → leaves r v m room ≡ firstOf (readOf v m at count room)
+      go true q =
+          let e = row ∙ ap (λ (t : Bool). cond t (lastRow (badCount (layoutOf m) at count) (ltb (length room) (2 * count))) (frontRow h m)) q in
+          let p = front-passes v m (not (liveOf (v .power) .held)) own refl (eqb-true (frontRow h m) 0 q) in
+          ap (λ (k : ℕ). leaves k v m room) e
+          ∙ last (badCount (layoutOf m) at count) (ltb (length room) (2 * count)) _ (λ k. z (e ∙ k))
+          ∙ sym (front-over v m (not (liveOf (v .power) .held)) p (λ k. leaves k v m room) _)
+      go false q =
+          let e = row ∙ ap (λ (t : Bool). cond t (lastRow (badCount (layoutOf m) at count) (ltb (length room) (2 * count))) (frontRow h m)) q in
+          ap (λ (k : ℕ). leaves k v m room) e ∙ front-stops v m (not (liveOf (v .power) .held)) own refl (λ k. leaves k v m room) _ (eqb-false (frontRow h m) 0 q)
 
-    pub read-stops : (r ≡ 0 → ⊥) → leaves r s m room ≡ readOf s m at count room
-    unfolding readOf firstRow
-    read-stops z =
-        let k = by-rows (s .power) holds checks row in
-        ap (λ (n : ℕ). leaves n s m room) k
-        ∙ go (short m) (headerWrong m) (contentBroken m) (isOff (s .power) || not (eqb (countIn (layoutOf m) m) 0)) (not (liveOf (s .power) .held)) (badCount (layoutOf m) at count) (ltb (length room) (2 * count)) (λ e. z (k ∙ e)) _
+  module _ (z : r ≡ 0) where
+    passed : Passed (v .power) m (not (liveOf (v .power) .held))
+    passed = front-passes v m (not (liveOf (v .power) .held)) (holds ∙ held-own (v .power)) refl (row-none h m at count (length room) (sym row ∙ z) .0)
+
+    ended : (badCount (layoutOf m) at count ≡ false) × (2 * count ≤ length room)
+    ended = end-zero (layoutOf m) at count (length room) (row-none h m at count (length room) (sym row ∙ z) .1)
+
+    pub read-counts : badCount (layoutOf m) at count ≡ false
+    read-counts = ended .0
+
+    -- the session afterwards
+    shown-by : (p : Power) → isOff p ≡ false → (k : Bool) → cond k (afterKilled p) (record { power = p }) ≡ registerTo (liveOf p) (cond k (withKilled (liveOf p .register)) (liveOf p .register))
+    shown-by power.Off h k = absurd (true≢false h)
+    shown-by (power.On l) h true = refl
+    shown-by (power.On l) h false = refl
+
+    pub read-shows : (k : Bool) → k ≡ isKilled (liveOf (v .power) .state)
+        → gives 0 (cond k (afterKilled (v .power)) v) (16 * count) 0 m (packed (readBits (layoutOf m) m k at count) room) ≡ firstOf (readOf v m at count room)
+    unfolding readOf
+    read-shows k e =
+        let on = none-or (isOff (v .power)) (not (eqb (countIn (layoutOf m) m) 0)) (passed .ready) .0 in
+        let small : ltb (length room) (2 * count) ≡ false = le-ltb (length room) (2 * count) (ended .1) in
+        ap (λ (s : Session). gives 0 s (16 * count) 0 m (packed (readBits (layoutOf m) m k at count) room)) (shown-by (v .power) on k)
+        ∙ ap (λ (b : Bool). gives 0 (registerTo (liveOf (v .power)) (cond b (withKilled (liveOf (v .power) .register)) (liveOf (v .power) .register))) (16 * count) 0 m (packed (readBits (layoutOf m) m b at count) room)) e
+        ∙ past (badCount (layoutOf m) at count) (ltb (length room) (2 * count)) _ (ended .0) small
+        ∙ sym (front-over v m (not (liveOf (v .power) .held)) passed (λ k. leaves k v m room) _)
       where
-        go : (a b c d e f g : Bool) → (firstRow a b c d e f g ≡ 0 → ⊥) → (t : Result)
-            → leaves (firstRow a b c d e f g) s m room
-            ≡ cond a (leaves 1 s m room) (cond b (leaves 2 s m room) (cond c (leaves 3 s m room) (cond d (leaves 5 s m room) (cond e (leaves 6 s m room) (cond f (leaves 13 s m room) (cond g (leaves 4 s m room) t))))))
-        go true b c d e f g n t = refl
-        go false true c d e f g n t = refl
-        go false false true d e f g n t = refl
-        go false false false true e f g n t = refl
-        go false false false false true f g n t = refl
-        go false false false false false true g n t = refl
-        go false false false false false false true n t = refl
-        go false false false false false false false n t = absurd (n refl)
+        past : (f g : Bool) (x : Result) → f ≡ false → g ≡ false → x ≡ cond f (leaves 13 v m room) (cond g (leaves 4 v m room) x)
+        past f g x p q = rw (p, q)
 
-    module _ (z : r ≡ 0) where
-      passed : (short m ≡ false) × (headerWrong m ≡ false) × (contentBroken m ≡ false) × (isOff (s .power) || not (eqb (countIn (layoutOf m) m) 0) ≡ false) × (not (liveOf (s .power) .held) ≡ false) × (badCount (layoutOf m) at count ≡ false) × (ltb (length room) (2 * count) ≡ false)
-      passed = none _ _ _ _ _ _ _ (sym (by-rows (s .power) holds checks row) ∙ z)
+    pub read-killed : (k : Bool) → k ≡ isKilled (liveOf (v .power) .state) → k ≡ true
+        → gives 0 (afterKilled (v .power)) (16 * count) 0 m (packed (readBits (layoutOf m) m k at count) room) ≡ firstOf (readOf v m at count room)
+    read-killed k e t =
+        ap (λ (b : Bool). gives 0 (cond b (afterKilled (v .power)) v) (16 * count) 0 m (packed (readBits (layoutOf m) m k at count) room)) (sym t) ∙ read-shows k e
 
-      pub read-good : Good (layoutOf m) m
-      read-good =
-          let p = passed in
-          row-0 m (sym checks ∙ checked checks ∙ sure _ _ _ (p .0) (p .1) (p .2))
-        where
-          sure : (a b c : Bool) → a ≡ false → b ≡ false → c ≡ false → checkRow a b c ≡ 0
-          sure a b c p q r = rw (p, q, r)
-
-      pub read-counts : badCount (layoutOf m) at count ≡ false
-      read-counts = passed .5
-
-      pub read-roomy : 2 * count ≤ length room
-      read-roomy = ltb-false _ _ (passed .6)
-
-      -- the session afterwards
-      shown-by : (p : Power) → isOff p ≡ false → (k : Bool) → cond k (afterKilled p) (record { power = p }) ≡ registerTo (liveOf p) (cond k (withKilled (liveOf p .register)) (liveOf p .register))
-      shown-by power.Off h k = absurd (true≢false h)
-      shown-by (power.On l) h true = refl
-      shown-by (power.On l) h false = refl
-
-      pub read-shows : (k : Bool) → k ≡ isKilled (liveOf (s .power) .state)
-          → gives 0 (cond k (afterKilled (s .power)) s) (16 * count) 0 m (packed (readBits (layoutOf m) m k at count) room) ≡ readOf s m at count room
-      unfolding readOf
-      read-shows k e =
-          let p = passed in
-          let on = none-or (isOff (s .power)) (not (eqb (countIn (layoutOf m) m) 0)) (p .3) .0 in
-          ap (λ (v : Session). gives 0 v (16 * count) 0 m (packed (readBits (layoutOf m) m k at count) room)) (shown-by (s .power) on k)
-          ∙ ap (λ (b : Bool). gives 0 (registerTo (liveOf (s .power)) (cond b (withKilled (liveOf (s .power) .register)) (liveOf (s .power) .register))) (16 * count) 0 m (packed (readBits (layoutOf m) m b at count) room)) e
-          ∙ go _ _ _ _ _ _ _ _ p
-        where
-          go : (a b c d e f g : Bool) (t : Result) → (a ≡ false) × (b ≡ false) × (c ≡ false) × (d ≡ false) × (e ≡ false) × (f ≡ false) × (g ≡ false)
-              → t ≡ cond a (leaves 1 s m room) (cond b (leaves 2 s m room) (cond c (leaves 3 s m room) (cond d (leaves 5 s m room) (cond e (leaves 6 s m room) (cond f (leaves 13 s m room) (cond g (leaves 4 s m room) t))))))
-          go a b c d e f g t h = rw (h .0, h .1, h .2, h .3, h .4, h .5, h .6)
-
-      pub read-killed : (k : Bool) → k ≡ isKilled (liveOf (s .power) .state) → k ≡ true
-          → gives 0 (afterKilled (s .power)) (16 * count) 0 m (packed (readBits (layoutOf m) m k at count) room) ≡ readOf s m at count room
-      read-killed k e t =
-          ap (λ (b : Bool). gives 0 (cond b (afterKilled (s .power)) s) (16 * count) 0 m (packed (readBits (layoutOf m) m k at count) room)) (sym t) ∙ read-shows k e
-
-      pub read-lives : (k : Bool) → k ≡ isKilled (liveOf (s .power) .state) → k ≡ false
-          → gives 0 s (16 * count) 0 m (packed (readBits (layoutOf m) m k at count) room) ≡ readOf s m at count room
-      read-lives k e t =
-          ap (λ (b : Bool). gives 0 (cond b (afterKilled (s .power)) s) (16 * count) 0 m (packed (readBits (layoutOf m) m k at count) room)) (sym t) ∙ read-shows k e
+    pub read-lives : (k : Bool) → k ≡ isKilled (liveOf (v .power) .state) → k ≡ false
+        → gives 0 v (16 * count) 0 m (packed (readBits (layoutOf m) m k at count) room) ≡ firstOf (readOf v m at count room)
+    read-lives k e t =
+        ap (λ (b : Bool). gives 0 (cond b (afterKilled (v .power)) v) (16 * count) 0 m (packed (readBits (layoutOf m) m k at count) room)) (sym t) ∙ read-shows k e
 
 -- a mask's next byte
 masked-byte : (b : Bool) → eqb (bitOf (not b)) 0 ≡ b
@@ -486,54 +386,48 @@ module _ (y : Layout) (m : List ℕ) (at : ℕ) (closed : portOpen y m ≡ false
 
 -- a write's rows
 module _ (m : List ℕ) (at : ℕ) (d : List ℕ) (s : ℕ) where
-  pub write-short : (v : Session) → short m ≡ true → gives 1 v 0 0 m [] ≡ writeOf v m at d s
-  unfolding writeOf
-  write-short v p = rw p
+  module _ (v : Session) {h row : ℕ} (own : h ≡ heldRow (v .power)) (is : row ≡ frontRow h m) where
+    pub write-stops : (row ≡ 0 → ⊥) → leaves row v m [] ≡ firstOf (writeOf changeStores v m at d s)
+    unfolding writeOf
+    write-stops z = front-stops v m (not (liveOf (v .power) .held)) (own ∙ held-own (v .power)) is (λ k. leaves k v m []) _ z
 
-  pub write-header : (v : Session) → short m ≡ false → headerWrong m ≡ true → gives 2 v 0 0 m [] ≡ writeOf v m at d s
-  unfolding writeOf
-  write-header v p q = rw (p, q)
+    pub write-few : row ≤ 13
+    write-few = front-few v m (not (liveOf (v .power) .held)) (own ∙ held-own (v .power)) is
 
-  pub write-content : (v : Session) → short m ≡ false → headerWrong m ≡ false → contentBroken m ≡ true → gives 3 v 0 0 m [] ≡ writeOf v m at d s
-  unfolding writeOf
-  write-content v p q r = rw (p, q, r)
+    pub write-passes : row ≡ 0 → Passed (v .power) m (not (liveOf (v .power) .held))
+    write-passes z = front-passes v m (not (liveOf (v .power) .held)) (own ∙ held-own (v .power)) is z
 
-  pub write-off : short m ≡ false → headerWrong m ≡ false → contentBroken m ≡ false → gives 5 offSession 0 0 m [] ≡ writeOf offSession m at d s
-  unfolding writeOf
-  write-off p q r = rw (p, q, r)
+  module _ (l : Live) (p : Passed (power.On l) m (not (l .held))) where
+    pub write-counts : badData (layoutOf m) at d ≡ true → kept 13 l m [] ≡ firstOf (writeOf changeStores (onSession l) m at d s)
+    unfolding writeOf writeEnd
+    write-counts e = sym (front-over (onSession l) m (not (l .held)) p (λ k. kept k l m []) _ ∙ ap (λ (b : Bool). cond b (kept 13 l m []) (writeEnd l (layoutOf m) m at d s)) e)
 
-  pub write-live : (l : Live) → short m ≡ false → headerWrong m ≡ false → contentBroken m ≡ false
-      → writeOf (onSession l) m at d s ≡ gated l (layoutOf m) m [] (badData (layoutOf m) at d) (writeEnd l (layoutOf m) m at d s)
-  unfolding writeOf gated writeEnd
-  write-live l p q r =
-      past-three (short m) (headerWrong m) (contentBroken m) (kept 1 l m []) (kept 2 l m []) (kept 3 l m [])
-      (gated l (layoutOf m) m [] (badData (layoutOf m) at d) (writeEnd l (layoutOf m) m at d s)) p q r
+    pub write-live : badData (layoutOf m) at d ≡ false → writeEnd l (layoutOf m) m at d s ≡ firstOf (writeOf changeStores (onSession l) m at d s)
+    unfolding writeOf writeEnd
+    write-live e = sym (front-over (onSession l) m (not (l .held)) p (λ k. kept k l m []) _ ∙ ap (λ (b : Bool). cond b (kept 13 l m []) (writeEnd l (layoutOf m) m at d s)) e)
 
 -- a write's ends
 module _ (l : Live) (y : Layout) (m : List ℕ) (at : ℕ) (d : List ℕ) (s : ℕ) where
   stores : List Store → List Store
   stores ss = changeStores (y .work .at) ss
 
-  lost : List Store → Result
-  lost ss = gives 11 offSession 0 s (after m (take s (stores ss))) []
-
   made : Bool → List Store → Bool → Result
   made k ss u =
       gives 0 (registerTo l (cond k (withKilled (l .register)) (withUnwritten u (l .register)))) 0 (length (stores ss)) (after m (stores ss)) []
 
   ends : Bool → List Store → Bool → Result
-  ends k ss u = cond (ltb s (length (stores ss))) (lost ss) (made k ss u)
+  ends k ss u = cond (ltb s (length (stores ss))) (lost m (stores ss) s []) (made k ss u)
 
   end-is : (k : Bool) (ss : List Store) (u : Bool) → isKilled (l .state) ≡ k → portWords y m k at d ≡ ss → someUnwritten y m at (length d / 2) ≡ u
       → ends k ss u ≡ writeEnd l y m at d s
-  unfolding writeEnd ends made lost stores
+  unfolding writeEnd ends made stores
   end-is k ss u e f g =
       let n = length d / 2 in
       sym (ap (λ (b : Bool). ends b (portWords y m b at d) (someUnwritten y m at n)) e ∙ ap₂ (ends k) f g)
 
   nothing : (k u : Bool) → made k [] u ≡ ends k [] u
   unfolding ends stores
-  nothing k u = sym (ap (λ (b : Bool). cond b (lost []) (made k [] u)) (le-ltb s 0 (omega arith)))
+  nothing k u = sym (ap (λ (b : Bool). cond b (lost m (stores []) s []) (made k [] u)) (le-ltb s 0 (omega arith)))
 
   pub write-killed : isKilled (l .state) ≡ true → gives 0 (registerTo l (withKilled (l .register))) 0 0 m [] ≡ writeEnd l y m at d s
   unfolding made stores
@@ -548,11 +442,11 @@ module _ (l : Live) (y : Layout) (m : List ℕ) (at : ℕ) (d : List ℕ) (s : �
       (g : someUnwritten y m at (length d / 2) ≡ u) where
     pub write-cut : s < length (changeStores (y .work .at) ss)
         → gives 11 offSession 0 s (after m (take s (changeStores (y .work .at) ss))) [] ≡ writeEnd l y m at d s
-    unfolding ends lost stores
-    write-cut h = sym (ap (λ (b : Bool). cond b (lost ss) (made false ss u)) (lt-ltb s (length (stores ss)) h)) ∙ end-is false ss u e f g
+    unfolding ends stores
+    write-cut h = sym (ap (λ (b : Bool). cond b (lost m (stores ss) s []) (made false ss u)) (lt-ltb s (length (stores ss)) h)) ∙ end-is false ss u e f g
 
     pub write-done : length (changeStores (y .work .at) ss) ≤ s
         → gives 0 (registerTo l (withUnwritten u (l .register))) 0 (length (changeStores (y .work .at) ss)) (after m (changeStores (y .work .at) ss)) []
         ≡ writeEnd l y m at d s
     unfolding ends made stores
-    write-done h = sym (ap (λ (b : Bool). cond b (lost ss) (made false ss u)) (le-ltb s (length (stores ss)) h)) ∙ end-is false ss u e f g
+    write-done h = sym (ap (λ (b : Bool). cond b (lost m (stores ss) s []) (made false ss u)) (le-ltb s (length (stores ss)) h)) ∙ end-is false ss u e f g

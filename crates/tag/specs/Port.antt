@@ -4,54 +4,35 @@ use mathlib.Core.Bool.{Bool, true, false, cond, not, _&&_, _||_}
 use mathlib.Core.List.{List, [], _∷_, _++_}
 use lib.Dec.{eqb, ltb}
 use lib.ListN.{length, replicate}
-use Rattle.bits.specs.Words.{wordAt, Store, store, after}
+use Rattle.bits.specs.Words.{wordAt, Store, store}
 use Rattle.bits.specs.Bits.{wordsBits}
 use Rattle.bits.specs.Below.{every}
-use Rattle.bits.specs.First.{first}
 use Rattle.image.specs.declared.Layout.{Layout}
 use Rattle.image.specs.Layout.{layoutOf, pairsIn}
 use Rattle.image.specs.Content.{lockWord}
 use Rattle.rights.specs.Rights.{pwdBit, blockOpen}
-use Rattle.replies.specs.Pack.{packed}
-use Rattle.stores.specs.Stores.{changeStores}
 use Rattle.tag.specs.declared.Register.{Register}
 use Rattle.tag.specs.declared.Live.{Live}
 use Rattle.tag.specs.declared.Session.{Session}
 use Rattle.tag.specs.Session.{on, clear}
-use Rattle.tag.specs.Result.{Result, gives, leaves, lost}
+use Rattle.tag.specs.Result.{Result, leaves, replying, storing, lost, Answers}
 use Rattle.states.specs.Commands.{isLinked, isKilled, zeroAccess}
-use Rattle.tag.specs.Table.{isOff, liveOf, firstRows, answered}
+use Rattle.tag.specs.Table.{liveOf, firstRows, answered, portRows}
 
--- a session with its port held or free, or with another register
-abbrev pub heldTo : Live → Bool → Session
-heldTo l b = on (l .state) b (l .register)
-
+-- a session with another register
 abbrev pub registerTo : Live → Register → Session
 registerTo l r = on (l .state) (l .held) r
 
--- the answers of calls without an image: Off, then what the port forbids
-abbrev pub portRows : Session → Bool → List (Result × Bool)
-portRows s port = (answered 5 s, isOff (s .power)) ∷ (answered 6 s, port) ∷ []
-
 -- 4.1: asking is granted unless the state is Open or Secured or the port is held
-abbrev pub askRows : Session → List (Result × Bool)
-askRows s = let l = liveOf (s .power) in portRows s (l .held || isLinked (l .state))
-
-abbrev pub granted : Session → Result
-granted s = answered 0 (heldTo (liveOf (s .power)) true)
-
-unfoldable pub askOf : Session → Result
-askOf s = first (askRows s) (granted s)
+unfoldable pub askOf : Session → Answers
+askOf s =
+    let l = liveOf (s .power) in
+    record { rows = portRows s (l .held || isLinked (l .state)); done = answered 0 (on (l .state) true (l .register)) }
 
 -- 4.7: releasing and reading the register need the port held
-abbrev pub holderRows : Session → List (Result × Bool)
-holderRows s = portRows s (not (liveOf (s .power) .held))
-
-abbrev pub released : Session → Result
-released s = answered 0 (heldTo (liveOf (s .power)) false)
-
-unfoldable pub releaseOf : Session → Result
-releaseOf s = first (holderRows s) (released s)
+unfoldable pub releaseOf : Session → Answers
+releaseOf s =
+    let l = liveOf (s .power) in record { rows = portRows s (not (l .held)); done = answered 0 (on (l .state) false (l .register)) }
 
 -- 4.5: bit 1, some word wasn't written; bit 0, killed
 abbrev pub bitOf : Bool → ℕ
@@ -61,12 +42,14 @@ abbrev pub numberIn : Register → ℕ
 numberIn r = 2 * bitOf (r .unwritten) + bitOf (r .killed)
 
 -- 4.6: the register as a number, and cleared
-abbrev pub told : Live → Result
-told l =
-    record { number = 0; session = registerTo l clear; reply = 0; stores = 0; value = numberIn (l .register); image = []; room = [] }
-
-unfoldable pub registerOf : Session → Result
-registerOf s = first (holderRows s) (told (liveOf (s .power)))
+unfoldable pub registerOf : Session → Answers
+registerOf s =
+    let l = liveOf (s .power) in
+    let value = numberIn (l .register) in
+    record {
+      rows = portRows s (not (l .held));
+      done = record { number = 0; session = registerTo l clear; reply = 0; stores = 0; value = value; image = []; room = [] };
+    }
 
 -- set bits last
 abbrev pub withKilled : Register → Register
@@ -90,19 +73,17 @@ abbrev pub readBits : Layout → List ℕ → Bool → ℕ → ℕ → List ℕ
 readBits y m killed at count = cond killed (replicate (16 * count) 0) (wordsBits m (y .user .at + at) count)
 
 -- order 1, 2, 3, 5, 6, 13, 4
-abbrev pub readRows : Session → List ℕ → ℕ → ℕ → List ℕ → List (Result × Bool)
-readRows s m at count room =
-    refusals s m room (badCount (layoutOf m) at count) ++ ((leaves 4 s m room, ltb (length room) (2 * count)) ∷ [])
-
-abbrev pub shown : Session → List ℕ → ℕ → ℕ → List ℕ → Result
-shown s m at count room =
+unfoldable pub readOf : Session → List ℕ → ℕ → ℕ → List ℕ → Answers
+readOf s m at count room =
     let l = liveOf (s .power) in
     let killed = isKilled (l .state) in
-    gives 0 (registerTo l (cond killed (withKilled (l .register)) (l .register))) (16 * count) 0 m
-    (packed (readBits (layoutOf m) m killed at count) room)
-
-unfoldable pub readOf : Session → List ℕ → ℕ → ℕ → List ℕ → Result
-readOf s m at count room = first (readRows s m at count room) (shown s m at count room)
+    record {
+      rows =
+          refusals s m room (badCount (layoutOf m) at count) ++ ((leaves 4 s m room, ltb (length room) (2 * count)) ∷ []);
+      done =
+          replying (16 * count) (readBits (layoutOf m) m killed at count)
+          (leaves 0 (registerTo l (cond killed (withKilled (l .register)) (l .register))) m room);
+    }
 
 -- 4.4: the port may write; and a USER word that it may write
 abbrev pub portOpen : Layout → List ℕ → Bool
@@ -128,25 +109,15 @@ portWords y m killed at d = cond killed [] (writtenWords y m at d (length d / 2)
 abbrev pub someUnwritten : Layout → List ℕ → ℕ → ℕ → Bool
 someUnwritten y m at n = not (every (λ j. portWrites y m (at + j)) n)
 
--- order 1, 2, 3, 5, 6, 13, 11; a write has no room
-abbrev pub writeStores : Session → List ℕ → ℕ → List ℕ → List Store
-writeStores s m at d =
-    let y = layoutOf m in
-    changeStores (y .work .at) (portWords y m (isKilled (liveOf (s .power) .state)) at d)
-
-abbrev pub writeRows : Session → List ℕ → ℕ → List ℕ → ℕ → List (Result × Bool)
-writeRows s m at d power =
-    let stores = writeStores s m at d in
-    refusals s m [] (badData (layoutOf m) at d) ++ ((lost m stores power [], ltb power (length stores)) ∷ [])
-
-abbrev pub written : Session → List ℕ → ℕ → List ℕ → Result
-written s m at d =
-    let l = liveOf (s .power) in
-    let stores = writeStores s m at d in
-    gives 0
-    (registerTo l
-    (cond (isKilled (l .state)) (withKilled (l .register)) (withUnwritten (someUnwritten (layoutOf m) m at (length d / 2)) (l .register))))
-    0 (length stores) (after m stores) []
-
-unfoldable pub writeOf : Session → List ℕ → ℕ → List ℕ → ℕ → Result
-writeOf s m at d power = first (writeRows s m at d power) (written s m at d)
+-- order 1, 2, 3, 5, 6, 13, 11; a write has no room. `change` is how words are stored: `changeStores` in every promise
+module _ (change : ℕ → List Store → List Store) where
+  unfoldable pub writeOf : Session → List ℕ → ℕ → List ℕ → ℕ → Answers
+  writeOf s m at d power =
+      let y = layoutOf m in
+      let l = liveOf (s .power) in
+      let stores = change (y .work .at) (portWords y m (isKilled (l .state)) at d) in
+      let new = cond (isKilled (l .state)) (withKilled (l .register)) (withUnwritten (someUnwritten y m at (length d / 2)) (l .register)) in
+      record {
+        rows = refusals s m [] (badData y at d) ++ ((lost m stores power [], ltb power (length stores)) ∷ []);
+        done = storing stores (leaves 0 (registerTo l new) m []);
+      }

@@ -1,44 +1,45 @@
 -- The port as the code answers it: the outcome of a call, and a transfer's ends. Assumes nothing.
 use Prim.Native.Nat.{ℕ, zero, suc, _+_, _*_, _/_, _<_}
 use mathlib.Core.Path.{_≡_}
-use mathlib.Core.Bool.{Bool, cond, not}
+use mathlib.Core.Bool.{Bool, cond}
 use mathlib.Core.List.{List, []}
 use lib.Dec.{eqb, ltb}
-use lib.ListN.{length, getD, take}
+use lib.ListN.{length, getD}
 use Rattle.bits.specs.Words.{after}
 use Rattle.image.specs.declared.Layout.{Layout}
 use Rattle.image.specs.Layout.{layoutOf}
-use Rattle.image.specs.Content.{countIn}
 use Rattle.rights.specs.Rights.{blockOpen}
+use Rattle.replies.specs.Pack.{packed}
 use Rattle.stores.specs.Stores.{changeStores}
 use Rattle.tag.specs.declared.Live.{Live}
 use Rattle.tag.specs.declared.Power.{Power}
 use Rattle.tag.specs.declared.Power.the-variants as power
+use Rattle.tag.specs.declared.Register.{Register}
 use Rattle.tag.specs.declared.Session.{Session}
-use Rattle.tag.specs.Session.{offSession}
-use Rattle.tag.specs.Result.{Result, gives}
+use Rattle.tag.specs.Session.{offSession, on}
+use Rattle.tag.specs.Result.{Result, lost}
 use Rattle.states.specs.Commands.{isKilled}
-use Rattle.tag.specs.Steps.{kept}
-use Rattle.tag.specs.Port.{bitOf, registerTo, withKilled, withUnwritten, badCount, portWords, someUnwritten}
+use Rattle.tag.specs.Steps.{gives, frontRow}
+use Rattle.tag.specs.Port.{bitOf, registerTo, withKilled, withUnwritten, badCount, readBits, portWords, someUnwritten}
 
--- a transfer of a session under power on a good image: 5, 6, 13, or what follows
-unfoldable pub gated : Live → Layout → List ℕ → List ℕ → Bool → Result → Result
-gated l y m room bad rest =
-    cond (not (eqb (countIn y m) 0)) (kept 5 l m room) (cond (not (l .held)) (kept 6 l m room) (cond bad (kept 13 l m room) rest))
+-- a session with its port held or free
+abbrev pub heldTo : Live → Bool → Session
+heldTo l b = on (l .state) b (l .register)
 
--- a read's answer by the session alone: 5, 6, or 0
-abbrev pub heldRow : Power → ℕ
-heldRow power.Off = 5
-heldRow (power.On l) = cond (l .held) 0 6
+-- the register after a write
+abbrev pub wroteTo : Layout → List ℕ → Live → ℕ → ℕ → Register
+wroteTo y m l at n = cond (isKilled (l .state)) (withKilled (l .register)) (withUnwritten (someUnwritten y m at n) (l .register))
 
--- its answer past 6, for a room of n bytes: 13, 4, or 0
+-- a read's answer past 6, for a room of n bytes: 13, 4, or 0
 unfoldable pub endRow : Layout → ℕ → ℕ → ℕ → ℕ
 endRow y at count n = cond (badCount y at count) 13 (cond (ltb n (2 * count)) 4 0)
 
--- its answer, by the session's h and the check's v: the first row that holds, or 0
-unfoldable pub readRow : ℕ → ℕ → List ℕ → ℕ → ℕ → ℕ → ℕ
-readRow h v m at count n =
-    cond (not (eqb v 0)) v (cond (not (eqb (countIn (layoutOf m) m) 0)) 5 (cond (not (eqb h 0)) h (endRow (layoutOf m) at count n)))
+-- its answer, by the session's h: the first row that holds, or 0; and its room then
+unfoldable pub readRow : ℕ → List ℕ → ℕ → ℕ → ℕ → ℕ
+readRow h m at count n = cond (eqb (frontRow h m) 0) (endRow (layoutOf m) at count n) (frontRow h m)
+
+unfoldable pub readRoom : ℕ → Bool → List ℕ → ℕ → ℕ → List ℕ → List ℕ
+readRoom row killed m at count room = cond (eqb row 0) (packed (readBits (layoutOf m) m killed at count) room) room
 
 -- the session with bit 0 set, under power
 abbrev pub afterKilled : Power → Session
@@ -48,12 +49,9 @@ afterKilled (power.On l) = registerTo l (withKilled (l .register))
 -- a write that 13 does not stop
 unfoldable pub writeEnd : Live → Layout → List ℕ → ℕ → List ℕ → ℕ → Result
 writeEnd l y m at d power =
-    let killed = isKilled (l .state) in
-    let stores = changeStores (y .work .at) (portWords y m killed at d) in
-    cond (ltb power (length stores)) (gives 11 offSession 0 power (after m (take power stores)) [])
-    (gives 0
-    (registerTo l (cond killed (withKilled (l .register)) (withUnwritten (someUnwritten y m at (length d / 2)) (l .register))))
-    0 (length stores) (after m stores) [])
+    let stores = changeStores (y .work .at) (portWords y m (isKilled (l .state)) at d) in
+    cond (ltb power (length stores)) (lost m stores power [])
+    (gives 0 (registerTo l (wroteTo y m l at (length d / 2))) 0 (length stores) (after m stores) [])
 
 -- how many of the numbers below n pass a test
 abbrev pub passing : (ℕ → Bool) → ℕ → ℕ

@@ -7,18 +7,19 @@ use lib.ListN.{length}
 use Rattle.bits.specs.Words.{Store, store, after}
 use Rattle.bits.specs.Below.{below}
 use Rattle.image.specs.declared.Layout.{Layout}
-use Rattle.image.specs.Content.{countIn}
+use Rattle.image.specs.Content.{killedWord}
+use Rattle.image.specs.Steps.{readyRow}
 use Rattle.frames.specs.declared.Order.{Order}
 use Rattle.frames.specs.declared.Command.{Command}
 use Rattle.frames.specs.Message.{Message}
 use Rattle.frames.specs.Message as heard
-use Rattle.frames.specs.Frames.{heardOf, checksumRight}
 use Rattle.replies.specs.declared.Reply.{Reply}
 use Rattle.replies.specs.declared.Reply.the-variants as reply
 use Rattle.replies.specs.Replies.{replyBits, replyLength}
 use Rattle.replies.specs.Pack.{packed}
 use Rattle.rights.specs.declared.Code.{Code}
 use Rattle.rights.specs.declared.Code.the-variants as code
+use Rattle.rights.specs.Rights.{faultNumber}
 use Rattle.stores.specs.Stores.{changeStores, powerStores}
 use Rattle.stores.specs.Steps.{wordFrom}
 use Rattle.changes.specs.Changes.{Holds, orTo}
@@ -27,17 +28,47 @@ use Rattle.plans.specs.declared.Plan.the-variants as plan
 use Rattle.states.specs.declared.State.{State}
 use Rattle.states.specs.declared.State.the-variants as state
 use Rattle.tag.specs.declared.Live.{Live}
+use Rattle.tag.specs.declared.Power.{Power}
 use Rattle.tag.specs.declared.Power.the-variants as power
 use Rattle.tag.specs.declared.Session.{Session}
 use Rattle.tag.specs.declared.Answer.{Answer}
 use Rattle.tag.specs.declared.Answer.the-variants as answer
 use Rattle.tag.specs.declared.Outcome.{Outcome}
 use Rattle.tag.specs.Session.{offSession, newSession}
-use Rattle.tag.specs.Result.{Result, gives, leaves, lost, result}
-use Rattle.states.specs.Commands.{asksOf, linkOf, isKilled, wrongCommand, breaks, used}
+use Rattle.tag.specs.Result.{Result, leaves, lost, result}
+use Rattle.states.specs.Commands.{asksOf, linkOf, breaks, used}
+use Rattle.states.specs.Steps.{wrongCommand}
 use Rattle.plans.specs.Effects.{Scene, Effect, effectOf}
-use Rattle.tag.specs.Table.{fits, movedTo}
-use Rattle.tag.specs.Power.{poweredTo, firstIn}
+use Rattle.tag.specs.Table.{Input, fits, movedTo}
+
+-- an answer with its reply's length and the stores made
+abbrev pub gives : ℕ → Session → ℕ → ℕ → List ℕ → List ℕ → Result
+gives number session reply stores image room =
+    record { number = number; session = session; reply = reply; stores = stores; value = 0; image = image; room = room }
+
+-- what a frame call is handed, one after the other
+abbrev pub input : Session → List ℕ → List ℕ → ℕ → ℕ → List ℕ → ℕ → Input
+input session image frame bits fresh room power =
+    record { session = session; image = image; frame = frame; bits = bits; fresh = fresh; room = room; power = power }
+
+-- a session's own answer: 5 where it is Off, else one number where the port is held and one where it is free
+abbrev pub sessionRow : Power → ℕ → ℕ → ℕ
+sessionRow power.Off held free = 5
+sessionRow (power.On l) held free = cond (l .held) held free
+
+abbrev pub radioRow : Power → ℕ
+radioRow p = sessionRow p 6 0
+
+abbrev pub heldRow : Power → ℕ
+heldRow p = sessionRow p 0 6
+
+-- the number of the first of the rows 1, 2, 3, 5 and 6 that holds, or 0, by the session's h
+unfoldable pub frontRow : ℕ → List ℕ → ℕ
+frontRow h m = cond (eqb (readyRow m) 0) h (readyRow m)
+
+-- the first state of an image
+abbrev pub firstIn : Layout → List ℕ → State
+firstIn y m = cond (eqb (killedWord y m) 0) state.Arbitrate state.Killed
 
 -- an Off session, after so many stores
 abbrev pub stoppedAt : Answer → ℕ → Outcome
@@ -48,7 +79,7 @@ unfoldable pub started : Layout → List ℕ → ℕ → Result
 started y m s =
     let stores = powerStores y m in
     cond (ltb s (length stores)) (lost m stores s [])
-    (poweredTo 0 (newSession (firstIn y (after m stores))) (length stores) (after m stores))
+    (gives 0 (newSession (firstIn y (after m stores))) 0 (length stores) (after m stores) [])
 
 -- a session under power
 abbrev pub onSession : Live → Session
@@ -106,7 +137,7 @@ abbrev pub storedEnd : Live → ℕ → ℕ → List ℕ → List ℕ → ℕ �
 storedEnd l h w m room s st ss = doneEnd l w m room s (reply.Success h) st ss
 
 abbrev pub performOf : Live → ℕ → Layout → List ℕ → List ℕ → List ℕ → ℕ → Plan → Result
-performOf l h y m f room s (plan.Error e) = errorEnd l h m room e
+performOf l h y m f room s (plan.Error e) = errorEnd l h m room (faultNumber e)
 performOf l h y m f room s (plan.Silent st) = doneEnd l (y .work .at) m room s reply.Silence st []
 performOf l h y m f room s (plan.Number st n) = doneEnd l (y .work .at) m room s (reply.Number n) st []
 performOf l h y m f room s (plan.Words st at k) = doneEnd l (y .work .at) m room s (reply.Words at k h) st []
@@ -118,7 +149,7 @@ performOf l h y m f room s (plan.Mask st at n p) = storedEnd l h (y .work .at) m
 -- an order that no refusal stops, by its error code
 abbrev pub endBy : Code → Live → ℕ → List ℕ → List ℕ → ℕ → Effect → Result
 endBy code.Nothing l w m room s x = doneEnd l w m room s (x .reply) (x .state) (x .words)
-endBy (code.Error e) l w m room s x = errorEnd l (linkOf (l .state) .handle) m room e
+endBy (code.Error e) l w m room s x = errorEnd l (linkOf (l .state) .handle) m room (faultNumber e)
 
 abbrev pub sceneOf : Live → Layout → List ℕ → List ℕ → ℕ → Scene
 sceneOf l y m f fresh = record { layout = y; image = m; state = l .state; frame = f; fresh = fresh }
@@ -126,15 +157,16 @@ sceneOf l y m f fresh = record { layout = y; image = m; state = l .state; frame 
 abbrev pub orderOf : Live → Layout → List ℕ → List ℕ → ℕ → List ℕ → ℕ → Order → Result
 orderOf l y m f fresh room s o = let x = effectOf (sceneOf l y m f fresh) o in endBy (x .code) l (y .work .at) m room s x
 
-abbrev pub droppedWith : Live → Outcome
-droppedWith l = record { answer = answer.Password; session = movedTo l state.Arbitrate; reply = 0; stores = 0; value = 0 }
+abbrev pub droppedWith : Live → Answer → Outcome
+droppedWith l a = record { answer = a; session = movedTo l state.Arbitrate; reply = 0; stores = 0; value = 0 }
 
 -- a command whose frame is whole
 unfoldable pub commandOf : Live → Layout → List ℕ → List ℕ → ℕ → List ℕ → ℕ → Command → Result
 commandOf l y m f fresh room s c =
     let k = linkOf (l .state) in
     cond (wrongCommand (l .state) c) (kept 9 l m room)
-    (cond (breaks y m k (k .half) (asksOf (c .order) .part)) (result (droppedWith l) m room) (orderOf l y m f fresh room s (c .order)))
+    (cond (breaks y m k (k .half) (asksOf (c .order) .part)) (result (droppedWith l answer.Password) m room)
+    (orderOf l y m f fresh room s (c .order)))
 
 -- done, with the session, the reply's length, the stores made and the register as it was read
 abbrev pub doneWith : Session → ℕ → ℕ → ℕ → Outcome
@@ -148,12 +180,7 @@ keptWith s a = record { answer = a; session = s; reply = 0; stores = 0; value = 
 abbrev pub movedWith : Live → State → Outcome
 movedWith l st = record { answer = answer.Done; session = movedTo l st; reply = 0; stores = 0; value = 0 }
 
--- what was heard, of a session under power on an image with nothing pending
-abbrev pub heardBy : Live → Layout → List ℕ → List ℕ → ℕ → ℕ → List ℕ → ℕ → Message → Result
-heardBy l y m f n fresh room s (heard.refused k) = kept 7 l m room
-heardBy l y m f n fresh room s heard.nak = cond (isKilled (l .state)) (kept 9 l m room) (result (movedWith l state.Arbitrate) m room)
-heardBy l y m f n fresh room s (heard.said c) = cond (not (checksumRight f n)) (kept 8 l m room) (commandOf l y m f fresh room s c)
-
-unfoldable pub liveBy : Live → Layout → List ℕ → List ℕ → ℕ → ℕ → List ℕ → ℕ → Result
-liveBy l y m f n fresh room s =
-    cond (not (eqb (countIn y m) 0)) (kept 5 l m room) (cond (l .held) (kept 6 l m room) (heardBy l y m f n fresh room s (heardOf f n)))
+-- what was heard, of a session that the front lets pass
+abbrev pub heardBy : Live → Layout → List ℕ → List ℕ → ℕ → List ℕ → ℕ → Message → Result
+heardBy l y m f fresh room s (heard.refused k) = kept k l m room
+heardBy l y m f fresh room s (heard.said c) = commandOf l y m f fresh room s c

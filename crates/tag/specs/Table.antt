@@ -1,25 +1,25 @@
 -- The answer table for frames, in its order (RULES 5). Assumes nothing.
-use Prim.Native.Nat.{ℕ}
+use Prim.Native.Nat.{ℕ, _+_, _/_}
 use mathlib.Core.Bool.{Bool, true, false, not, _&&_, _||_}
 use mathlib.Core.List.{List, [], _∷_, _++_}
 use lib.Dec.{eqb, ltb}
 use lib.ListN.{length}
-use Rattle.bits.specs.Words.{Store, after}
-use Rattle.bits.specs.First.{first}
+use Rattle.bits.specs.Words.{Store}
 use Rattle.image.specs.declared.Layout.{Layout}
 use Rattle.image.specs.Layout.{layoutOf}
 use Rattle.image.specs.Content.{countIn}
 use Rattle.image.specs.Check.{imageRows}
 use Rattle.frames.specs.Message.{Message}
 use Rattle.frames.specs.Message as heard
-use Rattle.frames.specs.Frames.{heardOf, checksumRight}
+use Rattle.frames.specs.Frames.{heardOf}
+use Rattle.frames.specs.declared.Command.{Command}
+use Rattle.frames.specs.declared.Order.the-variants as order
 use Rattle.replies.specs.declared.Reply.{Reply}
 use Rattle.replies.specs.declared.Reply.the-variants as reply
-use Rattle.replies.specs.Replies.{replyBits, replyLength, replyBytes}
-use Rattle.replies.specs.Pack.{packed}
+use Rattle.replies.specs.Replies.{replyBits, replyLength}
 use Rattle.rights.specs.declared.Code.{Code}
 use Rattle.rights.specs.declared.Code.the-variants as code
-use Rattle.stores.specs.Stores.{changeStores}
+use Rattle.rights.specs.Rights.{faultNumber}
 use Rattle.states.specs.declared.State.{State}
 use Rattle.states.specs.declared.State.the-variants as state
 use Rattle.tag.specs.declared.Live.{Live}
@@ -27,9 +27,9 @@ use Rattle.tag.specs.declared.Power.{Power}
 use Rattle.tag.specs.declared.Power.the-variants as power
 use Rattle.tag.specs.declared.Session.{Session}
 use Rattle.tag.specs.Session.{on, clear}
-use Rattle.tag.specs.Result.{Result, gives, leaves, lost}
-use Rattle.states.specs.Commands.{asksOf, linkOf, isArbitrate, wrong, breaks, used}
-use Rattle.plans.specs.Effects.{Scene, Effect, does, effectOf}
+use Rattle.tag.specs.Result.{Result, leaves, replying, storing, lost, Answers}
+use Rattle.states.specs.Commands.{asksOf, linkOf, isArbitrate, wrongBy, breaks, used}
+use Rattle.plans.specs.Effects.{Scene, Effect, effectOf}
 
 -- what a frame call is handed
 pub record Input : Type 0 where
@@ -43,9 +43,6 @@ pub record Input : Type 0 where
 
 abbrev pub layout : Input → Layout
 layout i = layoutOf (i .image)
-
-abbrev pub said : Input → Message
-said i = heardOf (i .frame) (i .bits)
 
 abbrev pub isOff : Power → Bool
 isOff power.Off = true
@@ -62,33 +59,28 @@ live i = liveOf (i .session .power)
 abbrev pub stateOf : Input → State
 stateOf i = live i .state
 
-abbrev pub malformed : Message → Bool
-malformed (heard.refused k) = true
-malformed heard.nak = false
-malformed (heard.said c) = false
+-- 7 and 8: what the frame itself is refused with
+abbrev pub refusedBy : ℕ → Message → Bool
+refusedBy n (heard.refused k) = eqb k n
+refusedBy n (heard.said c) = false
 
--- NAK has no CRC
-abbrev pub checksumWrong : List ℕ → ℕ → Message → Bool
-checksumWrong f n (heard.refused k) = false
-checksumWrong f n heard.nak = false
-checksumWrong f n (heard.said c) = not (checksumRight f n)
+-- of a refused frame nothing is asked past answer 8: a NAK stands in
+abbrev pub commandIn : Message → Command
+commandIn (heard.refused k) = record { number = 0; order = order.Nak }
+commandIn (heard.said c) = c
 
-abbrev pub broken : Input → Message → Bool
-broken i (heard.refused k) = false
-broken i heard.nak = false
-broken i (heard.said c) = let k = linkOf (stateOf i) in breaks (layout i) (i .image) k (k .half) (asksOf (c .order) .part)
+abbrev pub command : Input → Command
+command i = commandIn (heardOf (i .frame) (i .bits))
 
--- what was heard comes to; NAK: Arbitrate, and no reply
+abbrev pub broken : Input → Bool
+broken i = let k = linkOf (stateOf i) in breaks (layout i) (i .image) k (k .half) (asksOf (command i .order) .part)
+
+-- what the command comes to
 abbrev pub scene : Input → Scene
 scene i = record { layout = layout i; image = i .image; state = stateOf i; frame = i .frame; fresh = i .fresh }
 
-abbrev pub comes : Input → Message → Effect
-comes i (heard.refused k) = does (stateOf i) reply.Silence []
-comes i heard.nak = does state.Arbitrate reply.Silence []
-comes i (heard.said c) = effectOf (scene i) (c .order)
-
 abbrev pub effect : Input → Effect
-effect i = comes i (said i)
+effect i = effectOf (scene i) (command i .order)
 
 abbrev pub isError : Code → Bool
 isError code.Nothing = false
@@ -97,35 +89,29 @@ isError (code.Error e) = true
 -- the reply: the error's where there is one
 abbrev pub replyOr : Code → ℕ → Reply → Reply
 replyOr code.Nothing handle r = r
-replyOr (code.Error e) handle r = reply.Error e handle
+replyOr (code.Error e) handle r = reply.Error (faultNumber e) handle
 
 abbrev pub replyOf : Input → Reply
 replyOf i = replyOr (effect i .code) (linkOf (stateOf i) .handle) (effect i .reply)
 
-abbrev pub storesOf : Input → List Store
-storesOf i = changeStores (layout i .work .at) (effect i .words)
-
 abbrev pub fits : Reply → List ℕ → Bool
-fits r room = not (ltb (length room) (replyBytes r))
+fits r room = not (ltb (length room) ((replyLength r + 7) / 8))
 
 -- the session in another state; port and register stay
 abbrev pub movedTo : Live → State → Session
 movedTo l st = on st (l .held) (l .register)
 
--- what answers leave: everything; Arbitrate; the first s stores, Off and no reply; a reply with its state and stores
+-- what answers leave: everything; Arbitrate; a reply with its state and stores
 abbrev pub everything : Input → ℕ → Result
 everything i n = leaves n (i .session) (i .image) (i .room)
 
-abbrev pub dropped : Input → Result
-dropped i = leaves 12 (movedTo (live i) state.Arbitrate) (i .image) (i .room)
-
-abbrev pub cut : Input → Result
-cut i = lost (i .image) (storesOf i) (i .power) (i .room)
+abbrev pub dropped : Input → ℕ → Result
+dropped i n = leaves n (movedTo (live i) state.Arbitrate) (i .image) (i .room)
 
 abbrev pub replied : Input → ℕ → State → List Store → Result
 replied i n st ss =
-    gives n (movedTo (live i) st) (replyLength (replyOf i)) (length ss) (after (i .image) ss)
-    (packed (replyBits (i .image) (replyOf i)) (i .room))
+    let r = leaves n (movedTo (live i) st) (i .image) (i .room) in
+    storing ss (replying (replyLength (replyOf i)) (replyBits (i .image) (replyOf i)) r)
 
 -- 1, 2, 3, 5 and 6, for every call with an image; `port` is when the port forbids it
 abbrev pub firstRows : (ℕ → Result) → Session → List ℕ → Bool → List (Result × Bool)
@@ -135,41 +121,40 @@ firstRows everything session m port =
     ∷ (everything 6, port)
     ∷ []
 
--- THE TABLE: what is left, and when
-abbrev pub rows : Input → List (Result × Bool)
-rows i =
-    firstRows (everything i) (i .session) (i .image) (live i .held)
-    ++ (everything i 7, malformed (said i))
-    ∷ (everything i 8, checksumWrong (i .frame) (i .bits) (said i))
-    ∷ (everything i 9, wrong (stateOf i) (said i))
-    ∷ (dropped i, broken i (said i))
-    ∷ (replied i 10 (used (stateOf i)) [], isError (effect i .code) && fits (replyOf i) (i .room))
-    ∷ (everything i 4, not (fits (replyOf i) (i .room)))
-    ∷ (cut i, ltb (i .power) (length (storesOf i)))
-    ∷ []
+-- the stores of a command; `change` is how words are stored, given WORK's place: `changeStores` (2.1) in every promise
+module _ (change : ℕ → List Store → List Store) where
+  abbrev pub storesOf : Input → List Store
+  storesOf i = change (layout i .work .at) (effect i .words)
 
--- none of them: 0; and the outcome of a frame
-abbrev pub obeyed : Input → Result
-obeyed i = replied i 0 (effect i .state) (storesOf i)
-
-unfoldable pub frameOf : Input → Result
-frameOf i = first (rows i) (obeyed i)
-
-abbrev pub input : Session → List ℕ → List ℕ → ℕ → ℕ → List ℕ → ℕ → Input
-input session image frame bits fresh room power =
-    record { session = session; image = image; frame = frame; bits = bits; fresh = fresh; room = room; power = power }
+  -- THE TABLE
+  unfoldable pub frameOf : Input → Answers
+  frameOf i =
+      record {
+        rows =
+            firstRows (everything i) (i .session) (i .image) (live i .held)
+            ++ (everything i 7, refusedBy 7 (heardOf (i .frame) (i .bits)))
+            ∷ (everything i 8, refusedBy 8 (heardOf (i .frame) (i .bits)))
+            ∷ (everything i 9, wrongBy (stateOf i) (command i .number) (asksOf (command i .order)))
+            ∷ (dropped i 12, broken i)
+            ∷ (replied i 10 (used (stateOf i)) [], isError (effect i .code) && fits (replyOf i) (i .room))
+            ∷ (everything i 4, not (fits (replyOf i) (i .room)))
+            ∷ (lost (i .image) (storesOf i) (i .power) (i .room), ltb (i .power) (length (storesOf i)))
+            ∷ [];
+        done = replied i 0 (effect i .state) (storesOf i);
+      }
 
 -- 3.2: an admission takes Arbitrate to Acknowledged; it has neither image nor room, so its order starts at 5
 abbrev pub answered : ℕ → Session → Result
 answered n session = leaves n session [] []
 
-abbrev pub admitRows : Session → List (Result × Bool)
-admitRows s =
+-- the answers of calls without an image: Off, then what the port forbids
+abbrev pub portRows : Session → Bool → List (Result × Bool)
+portRows s port = (answered 5 s, isOff (s .power)) ∷ (answered 6 s, port) ∷ []
+
+unfoldable pub admitOf : Session → ℕ → Answers
+admitOf s n =
     let l = liveOf (s .power) in
-    (answered 5 s, isOff (s .power)) ∷ (answered 6 s, l .held) ∷ (answered 9 s, not (isArbitrate (l .state))) ∷ []
-
-abbrev pub admitted : Session → ℕ → Result
-admitted s n = answered 0 (movedTo (liveOf (s .power)) (state.Acknowledged n))
-
-unfoldable pub admitOf : Session → ℕ → Result
-admitOf s n = first (admitRows s) (admitted s n)
+    record {
+      rows = portRows s (l .held) ++ ((answered 9 s, not (isArbitrate (l .state))) ∷ []);
+      done = answered 0 (movedTo l (state.Acknowledged n));
+    }

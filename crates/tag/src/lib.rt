@@ -4,12 +4,12 @@ ghost use Rattle.tag.specs.Session.{numberOf};
 
 mod acting;
 mod answering;
+mod front;
 mod port;
 mod radio;
 mod starting;
 
-pub use port::read_row;
-pub use port::show;
+pub use port::read_words;
 pub use starting::power_up;
 pub use states::Cover;
 pub use states::Half;

@@ -5,16 +5,14 @@ ghost use mathlib.Core.List.{[]};
 ghost use Prim.Native.Nat.{ℕ, _*_, _≤_, _<_};
 ghost use lib.ListN.{length, getD};
 ghost use Rattle.image.specs.Layout.{layoutOf};
-ghost use Rattle.image.specs.Check.{rowOf, checkOf};
-ghost use Rattle.image.specs.Steps.{readyRow};
 ghost use Rattle.image.specs.Rules.{Good};
 ghost use Rattle.replies.specs.Pack.{packed};
-ghost use Rattle.tag.specs.Session.{numberOf};
+ghost use Rattle.stores.specs.Stores.{changeStores};
 ghost use Rattle.tag.specs.Table.{liveOf};
 ghost use Rattle.states.specs.Commands.{isKilled};
-ghost use Rattle.tag.specs.Port.{heldTo, registerTo, bitOf, numberIn, withKilled, withUnwritten, badCount, badData, readBits, portOpen, askOf, releaseOf, registerOf, readOf, writeOf};
-ghost use Rattle.tag.specs.PortSteps.{gated, heldRow, afterKilled, endRow, readRow, writeEnd, Masked};
-ghost use Rattle.tag.specs.Result.{result};
+ghost use Rattle.tag.specs.Port.{registerTo, bitOf, numberIn, withKilled, withUnwritten, badCount, badData, readBits, portOpen, askOf, releaseOf, registerOf, readOf, writeOf};
+ghost use Rattle.tag.specs.PortSteps.{afterKilled, endRow, readRow, readRoom, writeEnd, Masked, heldTo};
+ghost use Rattle.tag.specs.Result.{firstOf, result};
 use crate::Answer;
 use crate::Live;
 use crate::Outcome;
@@ -22,7 +20,7 @@ use crate::Power;
 use crate::Register;
 use crate::Session;
 use crate::answering;
-use crate::radio;
+use crate::front;
 use crate::starting;
 use image::Layout;
 use states::State;
@@ -128,22 +126,6 @@ fn bad_data(y: Layout, at: usize, words: &[u8]) -> bool
     image::pairs(y) < n / 2
 }
 
-// Answer 5 where the session is Off, 6 where the port isn't held, or 0.
-fn held_row(session: Session) -> u8
-    ensures { λ r. ⌜ r ≡ heldRow (session .power) ⌝ }
-{
-    let power = session.power;
-    match power {
-        Power::Off => 5,
-        Power::On(l) => {
-            if l.held {
-                return 0;
-            }
-            6
-        }
-    }
-}
-
 // Killed, under power.
 fn is_dead(session: Session) -> bool
     ensures { λ r. ⌜ r ≡ isKilled (liveOf (session .power) .state) ⌝ }
@@ -183,39 +165,8 @@ fn read_end(image: &[u8], at: usize, count: usize, room: usize) -> u8
     0
 }
 
-// The answer of a read as a number, from the session's and the check's.
-pub fn read_row(h: u8, v: u8, image: &[u8], at: usize, count: usize, room: usize) -> u8
-    requires { ⌜ v ≡ readyRow (now image) ⌝ }
-    ensures { λ r. ⌜ r ≡ readRow h (rowOf (checkOf (now (image .entry)))) (now (image .entry)) at count room ⌝ }
-{
-    if v != 0 {
-        return v;
-    }
-    if h != 0 {
-        return h;
-    }
-    read_end(image, at, count, room)
-}
-
-// The answers that a read may have.
-fn answer_of(n: u8) -> Answer
-    requires { ⌜ (6 < n → n ≡ 13) ⌝ }
-    ensures { λ r. ⌜ numberOf r ≡ n ⌝ }
-{
-    match n {
-        0 => Answer::Done,
-        1 => Answer::Short,
-        2 => Answer::Header,
-        3 => Answer::Content,
-        4 => Answer::NoRoom,
-        5 => Answer::NotReady,
-        6 => Answer::Port,
-        _ => Answer::Count,
-    }
-}
-
 // Words of USER into the room, or zeros when Killed.
-pub fn show(dead: bool, image: &[u8], at: usize, count: usize, room: &mut [u8])
+fn show(dead: bool, image: &[u8], at: usize, count: usize, room: &mut [u8])
     requires { ⌜ Good (layoutOf (now image)) (now image) ⌝ }
     requires { ⌜ badCount (layoutOf (now image)) at count ≡ false ⌝ }
     requires { ⌜ 2 * count ≤ length (now room) ⌝ }
@@ -227,6 +178,22 @@ pub fn show(dead: bool, image: &[u8], at: usize, count: usize, room: &mut [u8])
     }
     let user = image::read_layout(image).user.at as usize;
     replies::put_plain(room, image, user + at, count);
+}
+
+// A read of USER, of a session whose answer by itself is h: the number of the answer; words in the room where it is 0.
+pub fn read_words(h: u8, dead: bool, image: &[u8], at: usize, count: usize, room: &mut [u8]) -> u8
+    ensures { λ r. ⌜ (r ≡ readRow h (now (image .entry)) at count (length (now (room .entry)))) × (now (room .exit) ≡ readRoom r dead (now (image .entry)) at count (now (room .entry))) ⌝ }
+{
+    let row = front::front(h, image);
+    if row != 0 {
+        return row;
+    }
+    let end = read_end(image, at, count, room.len());
+    if end != 0 {
+        return end;
+    }
+    show(dead, image, at, count, room);
+    0
 }
 
 // No access password and no USER pwd bit: the port may write words of open blocks.
@@ -304,66 +271,49 @@ fn store(l: Live, y: Layout, image: &mut [u8], at: usize, words: &[u8], s: usize
     store_open(l, y, image, at, words, s)
 }
 
-// A write of a session under power on a good image.
-fn writing(l: Live, y: Layout, image: &mut [u8], at: usize, words: &[u8], s: usize) -> Outcome
-    requires { ⌜ Good y (now image) ⌝ }
-    ensures { λ r. ⌜ result r (now (image .exit)) [] ≡ gated l y (now (image .entry)) [] (badData y at (now (words .entry))) (writeEnd l y (now (image .entry)) at (now (words .entry)) s) ⌝ }
-{
-    if bits::word(image, y.work.at as usize) != 0 {
-        return answering::refused(l, Answer::NotReady);
-    }
-    if !l.held {
-        return answering::refused(l, Answer::Port);
-    }
-    if bad_data(y, at, words) {
-        return answering::refused(l, Answer::Count);
-    }
-    store(l, y, image, at, words, s)
-}
-
 impl Session {
     // Asks for the port.
     pub fn ask(self) -> Outcome
-        ensures { λ r. ⌜ result r [] [] ≡ askOf self ⌝ }
+        ensures { λ r. ⌜ result r [] [] ≡ firstOf (askOf self) ⌝ }
     {
         let power = self.power;
         let Power::On(l) = power else {
-            return radio::unmoved(self, Answer::NotReady);
+            return front::unmoved(self, Answer::NotReady);
         };
         if l.held {
-            return radio::unmoved(self, Answer::Port);
+            return front::unmoved(self, Answer::Port);
         }
         let state = l.state;
         if states::is_linked(state) {
-            return radio::unmoved(self, Answer::Port);
+            return front::unmoved(self, Answer::Port);
         }
         answering::done(with_held(l, true), 0, 0, 0)
     }
 
     // Gives the port back.
     pub fn release(self) -> Outcome
-        ensures { λ r. ⌜ result r [] [] ≡ releaseOf self ⌝ }
+        ensures { λ r. ⌜ result r [] [] ≡ firstOf (releaseOf self) ⌝ }
     {
         let power = self.power;
         let Power::On(l) = power else {
-            return radio::unmoved(self, Answer::NotReady);
+            return front::unmoved(self, Answer::NotReady);
         };
         if !l.held {
-            return radio::unmoved(self, Answer::Port);
+            return front::unmoved(self, Answer::Port);
         }
         answering::done(with_held(l, false), 0, 0, 0)
     }
 
     // Reads the register, which clears it.
     pub fn register(self) -> Outcome
-        ensures { λ r. ⌜ result r [] [] ≡ registerOf self ⌝ }
+        ensures { λ r. ⌜ result r [] [] ≡ firstOf (registerOf self) ⌝ }
     {
         let power = self.power;
         let Power::On(l) = power else {
-            return radio::unmoved(self, Answer::NotReady);
+            return front::unmoved(self, Answer::NotReady);
         };
         if !l.held {
-            return radio::unmoved(self, Answer::Port);
+            return front::unmoved(self, Answer::Port);
         }
         let register = l.register;
         let clear = Register {
@@ -375,21 +325,13 @@ impl Session {
 
     // Reads count words of USER from word `at` on into the room.
     pub fn read(self, image: &[u8], at: usize, count: usize, room: &mut [u8]) -> Outcome
-        ensures { λ r. ⌜ result r (now (image .entry)) (now (room .exit)) ≡ readOf self (now (image .entry)) at count (now (room .entry)) ⌝ }
+        ensures { λ r. ⌜ result r (now (image .entry)) (now (room .exit)) ≡ firstOf (readOf self (now (image .entry)) at count (now (room .entry))) ⌝ }
     {
-        let row = read_row(
-            held_row(self),
-            image::ready(image),
-            image,
-            at,
-            count,
-            room.len(),
-        );
-        if row != 0 {
-            return radio::unmoved(self, answer_of(row));
-        }
         let dead = is_dead(self);
-        show(dead, image, at, count, room);
+        let row = read_words(front::session_row(self, 0, 6), dead, image, at, count, room);
+        if row != 0 {
+            return front::unmoved(self, front::answer_of(row));
+        }
         if dead {
             return answering::done(after_killed(self), 16 * count, 0, 0);
         }
@@ -398,19 +340,20 @@ impl Session {
 
     // Writes words to USER from word `at` on, with power for s stores.
     pub fn write(self, image: &mut [u8], at: usize, words: &[u8], s: usize) -> Outcome
-        ensures { λ r. ⌜ result r (now (image .exit)) [] ≡ writeOf self (now (image .entry)) at (now (words .entry)) s ⌝ }
+        ensures { λ r. ⌜ result r (now (image .exit)) [] ≡ firstOf (writeOf changeStores self (now (image .entry)) at (now (words .entry)) s) ⌝ }
     {
-        match image::ready(image) {
-            1 => radio::unmoved(self, Answer::Short),
-            2 => radio::unmoved(self, Answer::Header),
-            3 => radio::unmoved(self, Answer::Content),
-            _ => {
-                let power = self.power;
-                let Power::On(l) = power else {
-                    return radio::unmoved(self, Answer::NotReady);
-                };
-                writing(l, image::read_layout(image), image, at, words, s)
-            }
+        let row = front::front(front::session_row(self, 0, 6), image);
+        if row != 0 {
+            return front::unmoved(self, front::answer_of(row));
         }
+        let power = self.power;
+        let Power::On(l) = power else {
+            return front::unmoved(self, Answer::NotReady);
+        };
+        let y = image::read_layout(image);
+        if bad_data(y, at, words) {
+            return answering::refused(l, Answer::Count);
+        }
+        store(l, y, image, at, words, s)
     }
 }

@@ -3,9 +3,10 @@ ghost use mathlib.Core.Path.{_≡_};
 ghost use mathlib.Core.List.{[]};
 ghost use Rattle.image.specs.Layout.{layoutOf};
 ghost use Rattle.image.specs.Rules.{Good};
-ghost use Rattle.tag.specs.Table.{input, frameOf, admitOf};
-ghost use Rattle.tag.specs.Result.{result};
-ghost use Rattle.tag.specs.Steps.{keptWith, movedWith, heardBy, liveBy};
+ghost use Rattle.stores.specs.Stores.{changeStores};
+ghost use Rattle.tag.specs.Table.{frameOf, admitOf};
+ghost use Rattle.tag.specs.Result.{firstOf, result};
+ghost use Rattle.tag.specs.Steps.{movedWith, heardBy};
 ghost use Rattle.frames.specs.Frames.{heardOf};
 use crate::Answer;
 use crate::Live;
@@ -14,21 +15,9 @@ use crate::Power;
 use crate::Session;
 use crate::acting;
 use crate::answering;
+use crate::front;
 use frames::Heard;
 use states::State;
-
-// Everything stays.
-pub fn unmoved(session: Session, answer: Answer) -> Outcome
-    ensures { λ r. ⌜ r ≡ keptWith session answer ⌝ }
-{
-    Outcome {
-        answer: answer,
-        session: session,
-        reply: 0,
-        stores: 0,
-        value: 0,
-    }
-}
 
 // Done without a reply.
 fn silent(l: Live, state: State) -> Outcome
@@ -37,7 +26,7 @@ fn silent(l: Live, state: State) -> Outcome
     answering::done(answering::moved(l, state), 0, 0, 0)
 }
 
-// What a frame says to a session under power.
+// What a frame says to a session that the front lets pass.
 fn hearing(
     l: Live,
     image: &mut [u8],
@@ -48,63 +37,30 @@ fn hearing(
     s: usize,
 ) -> Outcome
     requires { ⌜ Good (layoutOf (now image)) (now image) ⌝ }
-    ensures { λ r. ⌜ result r (now (image .exit)) (now (room .exit)) ≡ heardBy l (layoutOf (now (image .entry))) (now (image .entry)) (now (frame .entry)) n fresh (now (room .entry)) s (heardOf (now (frame .entry)) n) ⌝ }
+    ensures { λ r. ⌜ result r (now (image .exit)) (now (room .exit)) ≡ heardBy l (layoutOf (now (image .entry))) (now (image .entry)) (now (frame .entry)) fresh (now (room .entry)) s (heardOf (now (frame .entry)) n) ⌝ }
 {
     match frames::hear(frame, n) {
         Heard::Malformed => answering::refused(l, Answer::Malformed),
-        Heard::Nak => {
-            let state = l.state;
-            if states::is_killed(state) {
-                return answering::refused(l, Answer::Wrong);
-            }
-            silent(l, State::Arbitrate)
-        }
-        Heard::Said(c) => {
-            if !frames::checksum_right(frame, n) {
-                return answering::refused(l, Answer::Checksum);
-            }
-            acting::command(l, c, image, frame, fresh, room, s)
-        }
+        Heard::Checksum => answering::refused(l, Answer::Checksum),
+        Heard::Said(c) => acting::command(l, c, image, frame, fresh, room, s),
     }
-}
-
-// A session under power on a good image.
-fn listening(
-    l: Live,
-    image: &mut [u8],
-    frame: &[u8],
-    n: usize,
-    fresh: u16,
-    room: &mut [u8],
-    s: usize,
-) -> Outcome
-    requires { ⌜ Good (layoutOf (now image)) (now image) ⌝ }
-    ensures { λ r. ⌜ result r (now (image .exit)) (now (room .exit)) ≡ liveBy l (layoutOf (now (image .entry))) (now (image .entry)) (now (frame .entry)) n fresh (now (room .entry)) s ⌝ }
-{
-    if image::pending(image) {
-        return answering::refused(l, Answer::NotReady);
-    }
-    if l.held {
-        return answering::refused(l, Answer::Port);
-    }
-    hearing(l, image, frame, n, fresh, room, s)
 }
 
 impl Session {
     // An admission with a 16-bit number.
     pub fn admit(self, number: u16) -> Outcome
-        ensures { λ r. ⌜ result r [] [] ≡ admitOf self number ⌝ }
+        ensures { λ r. ⌜ result r [] [] ≡ firstOf (admitOf self number) ⌝ }
     {
         let power = self.power;
         let Power::On(l) = power else {
-            return unmoved(self, Answer::NotReady);
+            return front::unmoved(self, Answer::NotReady);
         };
         if l.held {
-            return unmoved(self, Answer::Port);
+            return front::unmoved(self, Answer::Port);
         }
         let state = l.state;
         if !states::is_arbitrate(state) {
-            return unmoved(self, Answer::Wrong);
+            return front::unmoved(self, Answer::Wrong);
         }
         silent(l, State::Acknowledged(number))
     }
@@ -119,19 +75,16 @@ impl Session {
         room: &mut [u8],
         s: usize,
     ) -> Outcome
-        ensures { λ r. ⌜ result r (now (image .exit)) (now (room .exit)) ≡ frameOf (input self (now (image .entry)) (now (frame .entry)) n fresh (now (room .entry)) s) ⌝ }
+        ensures { λ r. ⌜ result r (now (image .exit)) (now (room .exit)) ≡ firstOf (frameOf changeStores (record { session = self; image = now (image .entry); frame = now (frame .entry); bits = n; fresh = fresh; room = now (room .entry); power = s })) ⌝ }
     {
-        match image::ready(image) {
-            1 => unmoved(self, Answer::Short),
-            2 => unmoved(self, Answer::Header),
-            3 => unmoved(self, Answer::Content),
-            _ => {
-                let power = self.power;
-                let Power::On(l) = power else {
-                    return unmoved(self, Answer::NotReady);
-                };
-                listening(l, image, frame, n, fresh, room, s)
-            }
+        let row = front::front(front::session_row(self, 6, 0), image);
+        if row != 0 {
+            return front::unmoved(self, front::answer_of(row));
         }
+        let power = self.power;
+        let Power::On(l) = power else {
+            return front::unmoved(self, Answer::NotReady);
+        };
+        hearing(l, image, frame, n, fresh, room, s)
     }
 }

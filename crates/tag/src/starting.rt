@@ -5,9 +5,9 @@ ghost use lib.ListN.{length};
 ghost use Rattle.image.specs.Rules.{Good};
 ghost use Rattle.stores.specs.Stores.{powerStores};
 ghost use Rattle.tag.specs.Session.{offSession, newSession};
-ghost use Rattle.tag.specs.Power.{firstIn, powerUpOf};
-ghost use Rattle.tag.specs.Steps.{stoppedAt, started};
-ghost use Rattle.tag.specs.Result.{result};
+ghost use Rattle.tag.specs.Power.{powerUpOf};
+ghost use Rattle.tag.specs.Steps.{stoppedAt, started, firstIn};
+ghost use Rattle.tag.specs.Result.{firstOf, result};
 use crate::Answer;
 use crate::Live;
 use crate::Outcome;
@@ -53,7 +53,7 @@ pub fn stopped(answer: Answer, stores: usize) -> Outcome
 }
 
 // The stores that a power-up needs.
-fn needed(image: &[u8], y: Layout) -> usize
+fn needed_up(image: &[u8], y: Layout) -> usize
     ensures { λ r. ⌜ r ≡ length (powerStores y (now (image .entry))) ⌝ }
 {
     let c = bits::word(image, y.work.at as usize) as usize;
@@ -78,7 +78,7 @@ fn start(image: &mut [u8], y: Layout, s: usize) -> Outcome
     requires { ⌜ Good y (now image) ⌝ }
     ensures { λ r. ⌜ result r (now (image .exit)) [] ≡ started y (now (image .entry)) s ⌝ }
 {
-    let n = needed(image, y);
+    let n = needed_up(image, y);
     let made = stores::power(image, y, s);
     if s < n {
         return stopped(Answer::PowerLost, made);
@@ -94,7 +94,7 @@ fn start(image: &mut [u8], y: Layout, s: usize) -> Outcome
 
 // Power-up, for any bytes and any power.
 pub fn power_up(image: &mut [u8], s: usize) -> Outcome
-    ensures { λ r. ⌜ result r (now (image .exit)) [] ≡ powerUpOf (now (image .entry)) s ⌝ }
+    ensures { λ r. ⌜ result r (now (image .exit)) [] ≡ firstOf (powerUpOf (now (image .entry)) s) ⌝ }
 {
     match image::ready(image) {
         1 => stopped(Answer::Short, 0),

@@ -3,7 +3,7 @@ use mathlib.Core.Path.{sym, refl}
 use denote.Ref.{now}
 use borrow.Author.Needs.{needs}
 use Rattle.image.proofs.Answers.{check-good}
-use Rattle.bank.specs.Views.{numberOf, viewOf}
+use Rattle.bank.specs.Views.{bankNumber, viewOf}
 use Rattle.bank.specs.Shows.{bank-ends}
 use Rattle.bank.proofs.part.Statement.{statement}
 use Rattle.bank.proofs.part.Tie as tie
@@ -11,7 +11,7 @@ use Rattle.bank.proofs.part.Tie as tie
 bytes-requires : tie.Need-bytes-requires
 bytes-requires c κs = let a = c .before .before .before .before .before .before .before .args in
     let e = rw (c .before .before .before .y .given .1) at (c .before .before .before .before .before .check .ensures) in
-    rw (c .bank .ensures, c .before .number .ensures) (bank-ends _ (now (a .image)) (numberOf (a .bank)) (check-good (now (a .image)) _ (sym e) .header))
+    rw (c .bank .ensures, c .before .number .ensures) (bank-ends _ (now (a .image)) (bankNumber (a .bank)) (check-good (now (a .image)) _ (sym e) .header))
 
 returns : tie.Need-returns
 unfolding viewOf

@@ -12,7 +12,7 @@ use denote.Plain.{uint-lawful}
 use denote.Enum.Laws as EL
 use Rattle.image.specs.Check.{rowOf, checkOf}
 use Rattle.bank.specs.declared.Bank.{Bank}
-use Rattle.bank.specs.Views.{numberOf, shown, viewOf}
+use Rattle.bank.specs.Views.{bankNumber, shown, viewOf}
 use Rattle.bank.proofs.View.Laws as T′
 use Rattle.bank.proofs.Bank as N
 use Rattle.bank.proofs.Bank.Laws as N′
@@ -76,7 +76,7 @@ module _ {M : Type 1} (𝓤 : URA M) (H : Heap 𝓤) (A : Atoms 𝓤) (W : Given
       qed W ((‵ (flft κ q) ⊛ ‵ ftrue) ∷ ‵ (sl-own κ s) ∷ []) ∵ move ! (1 ∷ []) $ use1 W (‵ (sl-own κ s) ⊛ ‵ (sl-own κ s)) (shr-slice-copy 𝓤 H A W (named 0) κ u8 .twice s (sl s ∷ [])) $ split ! $
       nothing ! $ move ! (1 ∷ 0 ∷ []) $ fjoin ! $ move ! (2 ∷ 0 ∷ []) $ use2 W (raw (Answer 𝓤 H A at-mem run .pre to-answer)) asked-answer $ frame ! $ done !
 
-  exits : (r : Slice) (n : ℕ) → n < 2 ^ 8 → shown (viewing r n) ≡ viewOf (s .now) (numberOf b) → ent 𝓤 (⋆ 𝓤 H A ((‵ (flft κ q) ⊛ ‵ ftrue) ∷ ‵ (sl-own κ s) ∷ ‵ (sl-own κ r) ∷ [])) (Post (T′.lowered (viewing r n)))
+  exits : (r : Slice) (n : ℕ) → n < 2 ^ 8 → shown (viewing r n) ≡ viewOf (s .now) (bankNumber b) → ent 𝓤 (⋆ 𝓤 H A ((‵ (flft κ q) ⊛ ‵ ftrue) ∷ ‵ (sl-own κ s) ∷ ‵ (sl-own κ r) ∷ [])) (Post (T′.lowered (viewing r n)))
   exits r n fits e =
       qed W ((‵ (flft κ q) ⊛ ‵ ftrue) ∷ ‵ (sl-own κ s) ∷ ‵ (sl-own κ r) ∷ []) ∵
       suffices ! _ (ends-at 𝓤 H A f.ended stayed (f.clauses 𝓤 H A at-mem run) W (((κ, tt), (q, tt), tt, x, at), tt) (T′.lowered (viewing r n)) (viewing r n) (tt, (tt, tt)) (tt, (tt, tt))) $ says ! e $
@@ -89,7 +89,7 @@ module _ {M : Type 1} (𝓤 : URA M) (H : Heap 𝓤) (A : Atoms 𝓤) (W : Given
         alloc1 ! (λ l₀. alloc1 ! (λ l₁. alloc1 ! (λ l₂. alloc1 ! (λ l₃. alloc1 ! (λ l₄. alloc0 ! $ params1 ! $ pass1 ! (init ! 6 refl (shr-slice-lawful 𝓤 H A W (named 0) κ u8 .typed s (sl s ∷ []) is-s .0)) $ pass1 ! (init ! 4 refl (n-typed 𝓤 H A W b is-b)) $ pass0 ! $
         move ! (10 ∷ []) $ use1 W (raw (Part 𝓤 H A at-mem run .pre to-part) ⊛ ‵ (sl-own κ s)) apart $ split ! $
         calls-at ! fm (Part 𝓤 H A at-mem run) known to-part (and-then ! (load ! (from ! (stop !)) (look ! 8 refl)) (and-then ! (load ! (from ! (stop !)) (look ! 6 refl)) (no-more !))) (λ u.
-        hears ! tt g.ended (g.clauses 𝓤 H A at-mem run) to-part u (λ r ws. heard ! (r .now ≡ viewOf (s .now) (numberOf b) .bytes) (λ e. drop ! $ use1 W (‵ (flft κ q) ⊛ ‵ ftrue) (id⊢ 𝓤 _) $ move ! (1 ∷ []) $
+        hears ! tt g.ended (g.clauses 𝓤 H A at-mem run) to-part u (λ r ws. heard ! (r .now ≡ viewOf (s .now) (bankNumber b) .bytes) (λ e. drop ! $ use1 W (‵ (flft κ q) ⊛ ‵ ftrue) (id⊢ 𝓤 _) $ move ! (1 ∷ []) $
         -- [what the part owns; the token; what the image owns; room for _4; …; room for _3; …; _2; …; _1; …; room for _0; …]
         peeks ! (ShrSlice (named 0) κ u8) (Is (ShrSlice (named 0) κ u8)) (shows 𝓤 H A (ShrSlice (named 0) κ u8)) r (u ∷ []) (λ is. land ! (from ! (stop !)) (init ! 5 refl (shr-slice-lawful 𝓤 H A W erased κ u8 .typed r (u ∷ []) is .0)) $ spells ! 4 r u l₃ refl $
         move ! (1 ∷ 2 ∷ []) $ use2 W (raw (Answer 𝓤 H A at-mem run .pre to-answer) ⊛ ‵ (sl-own κ s)) again $ split ! $
@@ -100,7 +100,7 @@ module _ {M : Type 1} (𝓤 : URA M) (H : Heap 𝓤) (A : Atoms 𝓤) (W : Given
         rewrite ! 3 (λ (v : Val). ‵ (fat fullShare (tyInt w8) l₄ 0 v)) (ap only (uint-tells w8 n (w ∷ []) is′)) refl $
         assigns ! (agg ! (and-then ! (load ! (from ! (stop !)) (look ! 5 refl)) (and-then ! (load ! (from ! (stop !)) (look ! 3 refl)) (no-more !)))) (from ! (stop !)) (init ! 11 refl (tt, ((tt, (record { fits = is .0 .1 .0 }, tt)), (record { fits = is′ .1 }, tt)))) $
         returns ! (look ! 11 refl) $ move ! (11 ∷ 12 ∷ 9 ∷ 10 ∷ 7 ∷ 8 ∷ 5 ∷ 6 ∷ 3 ∷ 4 ∷ []) $ gone ! $ gone ! $ gone ! $ gone ! $ gone ! $ free0 ! $
-        by ! (exits r n (is′ .1) (made (s .now) (r .now) (numberOf b) n e e′)))))))))))))))
+        by ! (exits r n (is′ .1) (made (s .now) (r .now) (bankNumber b) n e e′)))))))))))))))
 
 pub view-of-spec : {M : Type 1} → stated.statement M
 unfolding code.routine

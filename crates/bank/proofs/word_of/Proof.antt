@@ -11,7 +11,7 @@ use denote.Struct.Laws as LL
 use Rattle.bank.specs.declared.Bank.{Bank}
 use Rattle.bank.specs.declared.View.{View}
 use Rattle.bank.specs.declared.Word.{Word}
-use Rattle.bank.specs.Views.{Shown, numberOf, shown, viewOf, wordIn, wordOf}
+use Rattle.bank.specs.Views.{Shown, bankNumber, shown, viewOf, wordIn, wordOf}
 use Rattle.bank.specs.Shows.{same-word}
 use Rattle.bank.proofs.View as T
 use Rattle.bank.proofs.View.Laws as T′
@@ -80,7 +80,7 @@ module _ {M : Type 1} (𝓤 : URA M) (H : Heap 𝓤) (A : Atoms 𝓤) (W : Given
   goes-read r u =
       qed W (‵ (Row κ .own r (u ∷ [])) ∷ (‵ (flft κ q) ⊛ ‵ ftrue) ∷ []) ∵ nothing ! $ owned ! u16 (Is u16) (uint-makes 𝓤 H A W w16) i _ (refl, i-fits) $ fjoin ! $ move ! (1 ∷ 0 ∷ []) $ fjoin ! $ move ! (1 ∷ 0 ∷ []) $ join ! $ frame ! $ done !
 
-  exits : (t : Word) (u : Val) → t ≡ wordOf (s .now) (numberOf b) i → ent 𝓤 (⋆ 𝓤 H A (‵ (S.the-row .own t (u ∷ [])) ∷ (‵ (flft κ q) ⊛ ‵ ftrue) ∷ ‵ (sl-own κ s) ∷ [])) (Post u)
+  exits : (t : Word) (u : Val) → t ≡ wordOf (s .now) (bankNumber b) i → ent 𝓤 (⋆ 𝓤 H A (‵ (S.the-row .own t (u ∷ [])) ∷ (‵ (flft κ q) ⊛ ‵ ftrue) ∷ ‵ (sl-own κ s) ∷ [])) (Post u)
   exits t u e =
       qed W (‵ (S.the-row .own t (u ∷ [])) ∷ (‵ (flft κ q) ⊛ ‵ ftrue) ∷ ‵ (sl-own κ s) ∷ []) ∵
       suffices ! _ (ends-at 𝓤 H A f.ended stayed (f.clauses 𝓤 H A at-mem run) W (((κ, tt), (q, tt), tt, x, at), tt) u t (tt, (tt, (tt, tt))) (tt, (tt, (tt, tt)))) $ says ! e $
@@ -94,7 +94,7 @@ module _ {M : Type 1} (𝓤 : URA M) (H : Heap 𝓤) (A : Atoms 𝓤) (W : Given
         pass1 ! (init ! 4 refl (n-typed 𝓤 H A W b is-b)) $ pass1 ! (init ! 2 refl (tt, record { fits = i-fits })) $ pass0 ! $
         move ! (10 ∷ []) $ use1 W (raw (Viewing 𝓤 H A at-mem run .pre to-view) ⊛ ‵ (sl-own κ s)) apart $ split ! $
         calls-at ! fm (Viewing 𝓤 H A at-mem run) known to-view (and-then ! (load ! (from ! (stop !)) (look ! 8 refl)) (and-then ! (load ! (from ! (stop !)) (look ! 6 refl)) (no-more !))) (λ u.
-        hears ! tt v.ended (v.clauses 𝓤 H A at-mem run) to-view u (λ r ws. heard ! (shown r ≡ viewOf (s .now) (numberOf b)) (λ e. drop ! $ use1 W (‵ (flft κ q) ⊛ ‵ ftrue) (id⊢ 𝓤 _) $ move ! (1 ∷ []) $
+        hears ! tt v.ended (v.clauses 𝓤 H A at-mem run) to-view u (λ r ws. heard ! (shown r ≡ viewOf (s .now) (bankNumber b)) (λ e. drop ! $ use1 W (‵ (flft κ q) ⊛ ‵ ftrue) (id⊢ 𝓤 _) $ move ! (1 ∷ []) $
         -- [what the view owns; the token; what the image owns; room for _4; …; _3; …; _2; …; _1; …; room for _0; …]
         peeks ! (Row κ) (Is (Row κ)) (shows 𝓤 H A (Row κ)) r (u ∷ []) (λ is. land ! (from ! (stop !)) (init ! 3 refl (LL.lawful (T.the-type local-a) (T′.the-laws local-a) 𝓤 H A W .typed r _ is .0)) $
         use2 W (raw (Reading 𝓤 H A at-mem run .pre (to-read r u))) (goes-read r u) $
@@ -103,7 +103,7 @@ module _ {M : Type 1} (𝓤 : URA M) (H : Heap 𝓤) (A : Atoms 𝓤) (W : Given
         -- [the result; the token; what the image owns; _4; …; _3; …; _2; …; _1; …; room for _0; …]
         peeks ! S.the-row (Is S.the-row) (shows 𝓤 H A S.the-row) t (w ∷ []) (λ is′. land ! (from ! (stop !)) (init ! 11 refl (EL.lawful S.the-type S′.the-laws 𝓤 H A W tt .typed t _ is′ .0)) $
         returns ! (look ! 11 refl) $ move ! (11 ∷ 12 ∷ 9 ∷ 10 ∷ 7 ∷ 8 ∷ 5 ∷ 6 ∷ 3 ∷ 4 ∷ []) $ gone ! $ gone ! $ gone ! $ gone ! $ gone ! $ free0 ! $
-        by ! (exits t w (e′ ∙ ap (λ (z : Shown). wordIn z i) e ∙ same-word (s .now) (numberOf b) i)))))))))))))))
+        by ! (exits t w (e′ ∙ ap (λ (z : Shown). wordIn z i) e ∙ same-word (s .now) (bankNumber b) i)))))))))))))))
 
 pub word-of-spec : {M : Type 1} → stated.statement M
 unfolding code.routine

@@ -5,7 +5,7 @@ use Rattle.walk.proofs.Walk.{‵, raw, _⊛_, ⋆, _$_, _∵_, !, qed, by, move
 use Rattle.walk.proofs.Walk.{look, init, stop, from, load, and-then, no-more, returns, enter, alloc1, alloc0, params1, pass1, pass0, free0, gone}
 use Rattle.walk.proofs.Walk.{FmC, owns, Is, uint-vals, uint-tells, uint-makes, ptr-vals, mut-tells, plain, only, owned, heard, nothing, Contract, Triple, calls-at, hears, onEntry, tripleOf, cited}
 use Rattle.walk.proofs.Walk.{says, Stays, stay-ref, stay-none, walkOf, goes-none, goes-ref, ends-at, walked, yes, concluded}
-use Rattle.tag.specs.Result.{result}
+use Rattle.tag.specs.Result.{result, firstOf}
 use Rattle.tag.specs.Table.{admitOf}
 use Rattle.tag.specs.declared.Session.{Session}
 use Rattle.tag.specs.declared.Outcome.{Outcome}
@@ -35,7 +35,7 @@ module _ {M : Type 1} (𝓤 : URA M) (H : Heap 𝓤) (A : Atoms 𝓤) (W : Given
   at = (vptr b o ∷ [], (vint w16 n ∷ [], tt))
 
   abbrev gave : Outcome → Type 0
-  gave r = result r [] [] ≡ admitOf h n
+  gave r = result r [] [] ≡ firstOf (admitOf h n)
 
   abbrev Post : Val → SProp 𝓤
   Post = walkOf 𝓤 H A f.ended stayed (f.clauses 𝓤 H A at-mem run) .post (((κ, tt), (q, tt), tt, x, at), tt)

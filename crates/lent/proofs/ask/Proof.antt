@@ -3,7 +3,7 @@ use mathlib.Core.Path.{_≡_}
 use mathlib.Core.List.{[]}
 use denote.Triple.Table.{cited}
 use Rattle.tag.specs.Port.{askOf}
-use Rattle.tag.specs.Result.{result}
+use Rattle.tag.specs.Result.{result, firstOf}
 use Rattle.tag.proofs.Session.ask.Symbol as g-def
 use Rattle.tag.proofs.Session.ask.Symbol.{name as #g}
 use Rattle.tag.proofs.Session.ask.Met as g-thm
@@ -13,7 +13,7 @@ use Rattle.lent.proofs.ask.Statement as stated
 use Rattle.lent.proofs.ask.Code as code
 
 abbrev said : Says
-said s r = result r [] [] ≡ askOf s
+said s r = result r [] [] ≡ firstOf (askOf s)
 
 pub ask-spec : {M : Type 1} → stated.statement M
 unfolding code.routine

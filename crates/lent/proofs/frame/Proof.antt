@@ -4,8 +4,8 @@ use Rattle.walk.proofs.Walk.{ℕ, _<_, _^_, [], _∷_, List, length, URA, named
 use Rattle.walk.proofs.Walk.{‵, raw, _⊛_, ⋆, _$_, _∵_, !, qed, by, move, keep, drop, use1, use2, split, join, fsplit, fsplit3, fjoin, fjoin3, feqL, feqI, suffices, frame as frames, done, look, init, stop, from, load, and-then, no-more}
 use Rattle.walk.proofs.Walk.{returns, enter, alloc1, alloc0, params1, pass1, pass0, free0, gone, FmC, owns, Is, uint-vals, uint-tells, uint-makes, u8, u16, usize, RefT, MutRef, ptr-vals, mut-tells, Slice, sl, ShrSlice, MutSlice, finally, slice-vals, shr-slice-tells, shr-slice-lawful, shr-slice-copy, mut-slice-tells, mut-slice-lawful, plain, only, owned, heard, nothing}
 use Rattle.walk.proofs.Walk.{Contract, Triple, calls-at, hears, onEntry, tripleOf, cited, says, Stays, stay-ref, stay-none, stay-none-slice, gave-slice, walkOf, goes-none, goes-ref, goes-none-slice, goes-gave-slice, ends-at, walked, yes, concluded}
-use Rattle.tag.specs.Result.{result}
-use Rattle.tag.specs.Table.{input, frameOf}
+use Rattle.tag.specs.Result.{result, firstOf}
+use Rattle.tag.specs.Table.{frameOf}
 use Rattle.tag.specs.declared.Session.{Session}
 use Rattle.tag.specs.declared.Outcome.{Outcome}
 use Rattle.tag.proofs.Session as T
@@ -19,6 +19,8 @@ use Rattle.lent.proofs.frame.Key.{name as #f}
 use Rattle.lent.proofs.frame as f
 use Rattle.lent.proofs.frame.Statement as stated
 use Rattle.lent.proofs.frame.Code as code
+use Rattle.tag.specs.Steps.{input}
+use Rattle.stores.specs.Stores.{changeStores}
 
 abbrev stayed : Stays (f.ended .signature .params) (f.ended .kept)
 stayed = (stay-ref (0 ∷ []) tt (plain (λ _. T.the-row)), (gave-slice (1 ∷ []) tt (plain (λ _. u8)), (stay-none-slice (2 ∷ []) tt (plain (λ _. u8)) yes, (stay-none (λ _. usize) yes, (stay-none (λ _. u16) yes, (gave-slice (3 ∷ []) tt (plain (λ _. u8)), (stay-none (λ _. usize) yes, tt)))))))
@@ -36,7 +38,7 @@ module _ {M : Type 1} (𝓤 : URA M) (H : Heap 𝓤) (A : Atoms 𝓤) (W : Given
   rest = (sl i ∷ [], (sl d ∷ [], (vint w64 n ∷ [], (vint w16 m ∷ [], (sl k ∷ [], (vint w64 p ∷ [], tt))))))
 
   abbrev gave : Outcome → List ℕ → List ℕ → Type 0
-  gave r image room = result r image room ≡ frameOf (input h (i .now) (d .now) n m (k .now) p)
+  gave r image room = result r image room ≡ firstOf (frameOf changeStores (input h (i .now) (d .now) n m (k .now) p))
 
   abbrev Post : Val → SProp 𝓤
   Post = walkOf 𝓤 H A f.ended stayed (f.clauses 𝓤 H A at-mem run) .post (((κ, (κ₁, (κ₂, (κ₃, tt)))), (q, (q₁, (q₂, (q₃, tt)))), tt, x, (vptr b o ∷ [], rest)), tt)

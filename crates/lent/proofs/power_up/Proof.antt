@@ -4,7 +4,7 @@ use Rattle.walk.proofs.Walk.{ℕ, _<_, _^_, [], _∷_, List, length, URA, named
 use Rattle.walk.proofs.Walk.{‵, raw, _⊛_, ⋆, _$_, _∵_, !, qed, by, move, keep, drop, use1, use2, split, join, fsplit, fsplit3, fjoin, fjoin3, feqL, feqI, suffices, frame as frames, done, look, init, stop, from, load, and-then, no-more}
 use Rattle.walk.proofs.Walk.{returns, enter, alloc1, alloc0, params1, pass1, pass0, free0, gone, FmC, owns, Is, uint-vals, uint-tells, uint-makes, u8, usize, RefT, MutRef, ptr-vals, mut-tells, Slice, sl, MutSlice, finally, slice-vals, mut-slice-tells, mut-slice-lawful, plain, only, owned, heard, nothing}
 use Rattle.walk.proofs.Walk.{Contract, Triple, calls-at, hears, onEntry, tripleOf, cited, says, Stays, stay-ref, stay-none, gave-slice, walkOf, goes-none, goes-ref, goes-gave-slice, ends-at, walked, yes, concluded}
-use Rattle.tag.specs.Result.{result}
+use Rattle.tag.specs.Result.{result, firstOf}
 use Rattle.tag.specs.Power.{powerUpOf}
 use Rattle.tag.specs.declared.Session.{Session}
 use Rattle.tag.specs.declared.Outcome.{Outcome}
@@ -36,7 +36,7 @@ module _ {M : Type 1} (𝓤 : URA M) (H : Heap 𝓤) (A : Atoms 𝓤) (W : Given
   rest = (sl i ∷ [], (vint w64 p ∷ [], tt))
 
   abbrev gave : Outcome → List ℕ → Type 0
-  gave r image = result r image [] ≡ powerUpOf (i .now) p
+  gave r image = result r image [] ≡ firstOf (powerUpOf (i .now) p)
 
   abbrev Post : Val → SProp 𝓤
   Post = walkOf 𝓤 H A f.ended stayed (f.clauses 𝓤 H A at-mem run) .post (((κ, (κ₁, tt)), (q, (q₁, tt)), tt, x, (vptr b o ∷ [], rest)), tt)

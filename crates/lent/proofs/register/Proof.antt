@@ -3,7 +3,7 @@ use mathlib.Core.Path.{_≡_}
 use mathlib.Core.List.{[]}
 use denote.Triple.Table.{cited}
 use Rattle.tag.specs.Port.{registerOf}
-use Rattle.tag.specs.Result.{result}
+use Rattle.tag.specs.Result.{result, firstOf}
 use Rattle.tag.proofs.Session.register.Symbol as g-def
 use Rattle.tag.proofs.Session.register.Symbol.{name as #g}
 use Rattle.tag.proofs.Session.register.Met as g-thm
@@ -13,7 +13,7 @@ use Rattle.lent.proofs.register.Statement as stated
 use Rattle.lent.proofs.register.Code as code
 
 abbrev said : Says
-said s r = result r [] [] ≡ registerOf s
+said s r = result r [] [] ≡ firstOf (registerOf s)
 
 pub register-spec : {M : Type 1} → stated.statement M
 unfolding code.routine

@@ -3,7 +3,7 @@ use mathlib.Core.Path.{_≡_}
 use mathlib.Core.List.{[]}
 use denote.Triple.Table.{cited}
 use Rattle.tag.specs.Port.{releaseOf}
-use Rattle.tag.specs.Result.{result}
+use Rattle.tag.specs.Result.{result, firstOf}
 use Rattle.tag.proofs.Session.release.Symbol as g-def
 use Rattle.tag.proofs.Session.release.Symbol.{name as #g}
 use Rattle.tag.proofs.Session.release.Met as g-thm
@@ -13,7 +13,7 @@ use Rattle.lent.proofs.release.Statement as stated
 use Rattle.lent.proofs.release.Code as code
 
 abbrev said : Says
-said s r = result r [] [] ≡ releaseOf s
+said s r = result r [] [] ≡ firstOf (releaseOf s)
 
 pub release-spec : {M : Type 1} → stated.statement M
 unfolding code.routine

@@ -4,7 +4,7 @@ use Rattle.walk.proofs.Walk.{ℕ, _<_, _^_, [], _∷_, List, length, URA, named
 use Rattle.walk.proofs.Walk.{‵, raw, _⊛_, ⋆, _$_, _∵_, !, qed, by, move, keep, drop, use1, use2, split, join, fsplit, fsplit3, fjoin, fjoin3, feqL, feqI, suffices, frame as frames, done, look, init, stop, from, load, and-then, no-more}
 use Rattle.walk.proofs.Walk.{returns, enter, alloc1, alloc0, params1, pass1, pass0, free0, gone, FmC, owns, Is, uint-vals, uint-tells, uint-makes, u8, usize, RefT, MutRef, ptr-vals, mut-tells, Slice, sl, ShrSlice, MutSlice, finally, slice-vals, shr-slice-tells, shr-slice-lawful, shr-slice-copy, mut-slice-tells, mut-slice-lawful, plain, only, owned, heard, nothing}
 use Rattle.walk.proofs.Walk.{Contract, Triple, calls-at, hears, onEntry, tripleOf, cited, says, Stays, stay-ref, stay-none, stay-none-slice, gave-slice, walkOf, goes-none, goes-ref, goes-none-slice, goes-gave-slice, ends-at, walked, yes, concluded}
-use Rattle.tag.specs.Result.{result}
+use Rattle.tag.specs.Result.{result, firstOf}
 use Rattle.tag.specs.Port.{writeOf}
 use Rattle.tag.specs.declared.Session.{Session}
 use Rattle.tag.specs.declared.Outcome.{Outcome}
@@ -19,6 +19,7 @@ use Rattle.lent.proofs.write.Key.{name as #f}
 use Rattle.lent.proofs.write as f
 use Rattle.lent.proofs.write.Statement as stated
 use Rattle.lent.proofs.write.Code as code
+use Rattle.stores.specs.Stores.{changeStores}
 
 abbrev stayed : Stays (f.ended .signature .params) (f.ended .kept)
 stayed = (stay-ref (0 ∷ []) tt (plain (λ _. T.the-row)), (gave-slice (1 ∷ []) tt (plain (λ _. u8)), (stay-none (λ _. usize) yes, (stay-none-slice (2 ∷ []) tt (plain (λ _. u8)) yes, (stay-none (λ _. usize) yes, tt)))))
@@ -36,7 +37,7 @@ module _ {M : Type 1} (𝓤 : URA M) (H : Heap 𝓤) (A : Atoms 𝓤) (W : Given
   rest = (sl i ∷ [], (vint w64 n ∷ [], (sl d ∷ [], (vint w64 p ∷ [], tt))))
 
   abbrev gave : Outcome → List ℕ → Type 0
-  gave r image = result r image [] ≡ writeOf h (i .now) n (d .now) p
+  gave r image = result r image [] ≡ firstOf (writeOf changeStores h (i .now) n (d .now) p)
 
   abbrev Post : Val → SProp 𝓤
   Post = walkOf 𝓤 H A f.ended stayed (f.clauses 𝓤 H A at-mem run) .post (((κ, (κ₁, (κ₂, tt))), (q, (q₁, (q₂, tt))), tt, x, (vptr b o ∷ [], rest)), tt)

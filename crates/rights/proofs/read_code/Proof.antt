@@ -20,14 +20,14 @@ unfolding readCode
 returns-2 c = let a = c .before .before .before .before .before .before .args in
     let y = layoutOf (now (a .image)) in
     let e : beyond (bankOf y (a .s .bank)) (a .s) ≡ false = sym (rw (c .before .before .before .before .bank-in .ensures) at (c .before .before .before .beyond .ensures)) ∙ c .before .before .if1 .left in
-    rw (e, others-read y (now (a .image)) (a .secured) (a .s) (spanWords (bankOf y (a .s .bank)) (a .s)) (c .if2 .taken))
+    rw (e, others-read y (now (a .image)) (a .secured) (a .s) (spanWords y (now (a .image)) (a .s)) (c .if2 .taken))
 
 returns-3 : tie.Need-returns-3
 unfolding readCode
 returns-3 c = let a = c .before .before .before .before .before .before .before .before .before .before .before .before .before .args in
     let e : beyond (bankOf (layoutOf (now (a .image))) (a .s .bank)) (a .s) ≡ false = sym (rw (c .before .before .before .before .before .before .before .before .before .before .before .bank-in .ensures) at (c .before .before .before .before .before .before .before .before .before .before .beyond .ensures)) ∙ c .before .before .before .before .before .before .before .before .before .if1 .left in
     let k = rw (c .before .before .before .before .before .before .read-layout .ensures) at (c .before .before .before .before .word .ensures) in
-    let w = rw (c .before .before .before .before .before .before .before .before .before .before .before .bank-in .ensures) at (c .before .before .span-words .ensures .0) in
+    let w = c .before .before .span-words .ensures .0 in
     rw (e, ← k, ← w, c .before .before .before .before .before .before .before .if2 .left) (simp (← c .before .reserved-open .ensures, c .if3 .taken))
 
 returns-4 : tie.Need-returns-4
@@ -35,7 +35,7 @@ unfolding readCode
 returns-4 c = let a = c .before .before .before .before .before .before .before .before .before .before .before .before .before .args in
     let e : beyond (bankOf (layoutOf (now (a .image))) (a .s .bank)) (a .s) ≡ false = sym (rw (c .before .before .before .before .before .before .before .before .before .before .before .bank-in .ensures) at (c .before .before .before .before .before .before .before .before .before .before .beyond .ensures)) ∙ c .before .before .before .before .before .before .before .before .before .if1 .left in
     let k = rw (c .before .before .before .before .before .before .read-layout .ensures) at (c .before .before .before .before .word .ensures) in
-    let w = rw (c .before .before .before .before .before .before .before .before .before .before .before .bank-in .ensures) at (c .before .before .span-words .ensures .0) in
+    let w = c .before .before .span-words .ensures .0 in
     rw (e, ← k, ← w, c .before .before .before .before .before .before .before .if2 .left) (simp (← c .before .reserved-open .ensures, c .if3 .left))
 
 pub read-code-spec : {M : Type 1} → statement M

@@ -1,78 +1,48 @@
--- `tag::Session::write` meets its contract: the check's answers are rows 1, 2 and 3, the rest is `writing`'s. Assumes nothing.
-use Rattle.tag.proofs.Ports.{write-short, write-header, write-content, write-off, write-live}
-use Rattle.tag.specs.PortSteps.{gated, writeEnd}
-use Rattle.tag.specs.Result.{gives}
-use Rattle.tag.specs.Port.{badData, writeOf}
-use Rattle.tag.specs.Steps.{onSession}
-use Rattle.tag.specs.Session.{offSession}
-use Rattle.tag.specs.declared.Session.{Session}
-use Rattle.tag.specs.declared.Power.{Power}
-use Rattle.tag.specs.declared.Live.{Live}
-use Rattle.image.proofs.Answers.{ready-is, ready-left, row-good, row-0, row-long, row-1, row-2, row-3, check-0}
-use Rattle.image.specs.declared.Layout.{Layout}
-use denote.Ref.{now}
-use native.Mathlib.Omega.{arith}
-use mathlib.Core.List.{[]}
+-- `tag::Session::write` meets its contract: stopped by the front, 13, or what a write stores. Assumes nothing.
+use Prim.Native.Nat.{ℕ}
 use mathlib.Core.Path.{_≡_, sym, ap, _∙_, subst}
+use mathlib.Core.Bool.{not}
+use mathlib.Core.List.{[]}
+use native.Mathlib.Omega.{arith}
+use denote.Ref.{now}
+use Rattle.stores.specs.Stores.{changeStores}
+use Rattle.tag.specs.declared.Live.{Live}
+use Rattle.tag.specs.declared.Power.{Power}
+use Rattle.tag.specs.declared.Session.{Session}
+use Rattle.tag.specs.Result.{leaves, firstOf}
+use Rattle.tag.specs.Table.{liveOf}
+use Rattle.tag.specs.Port.{writeOf}
+use Rattle.tag.specs.Steps.{onSession}
+use Rattle.tag.proofs.Fronts.{Passed, passed-good, passed-on}
+use Rattle.tag.proofs.Ports.{write-stops, write-few, write-passes, write-counts, write-live}
 use borrow.Author.Needs.{needs}
 use Rattle.tag.proofs.Session.write.Statement.{statement}
 use Rattle.tag.proofs.Session.write.Tie as tie
 
+answer-of-requires : tie.Need-answer-of-requires
+answer-of-requires c κs = let a = c .before .before .before .before .before .before .args in let m = now (a .image) in write-few m (a .at) (now (a .words)) (a .s) (a .self) (c .before .before .before .session-row .ensures) (c .before .front .ensures)
+
 returns : tie.Need-returns
-returns c =
-    let a = c .before .before .before .before .before .before .before .before .args in let m = now (a .image) in
-    let r = c .before .before .before .match .rest in
-    let z = ready-left m (c .before .before .before .before .ready .ensures) (r .0 .0 .1) (r .0 .1) (r .1) in
-    let h = check-0 m _ (row-good m z) in
-    let e : a .self ≡ offSession = ap (λ (p : Power). record { power = p }) (c .before .enum-told .given .1) in
-    rw (c .unmoved4 .ensures) (subst (λ (v : Session). gives 5 v 0 0 m [] ≡ writeOf v m (a .at) (now (a .words)) (a .s)) (sym e) (write-off m (a .at) (now (a .words)) (a .s) (h .0) (h .1) (h .2)))
-
-read-layout-requires : tie.Need-read-layout-requires
-read-layout-requires c κs =
-    let m = now (c .before .before .before .before .before .before .before .before .before .args .image) in
-    let r = c .before .before .before .before .match .rest in
-    row-long m (λ e. omega (arith, e, ready-left m (c .before .before .before .before .before .ready .ensures) (r .0 .0 .1) (r .0 .1) (r .1)))
-
-writing-requires : tie.Need-writing-requires
-writing-requires c κs =
-    let a = c .before .before .before .before .before .before .before .before .before .before .before .args in let m = now (a .image) in
-    let r = c .before .before .before .before .before .before .match .rest in
-    let z = ready-left m (c .before .before .before .before .before .before .before .ready .ensures) (r .0 .0 .1) (r .0 .1) (r .1) in
-    rw (c .before .read-layout .ensures) (row-0 m z)
+returns c = let a = c .before .before .before .before .before .before .before .before .args in let m = now (a .image) in rw (c .unmoved .ensures) (ap (λ (n : ℕ). leaves n (a .self) m []) (c .before .answer-of .ensures) ∙ write-stops m (a .at) (now (a .words)) (a .s) (a .self) (c .before .before .before .before .before .session-row .ensures) (c .before .before .before .front .ensures) (c .before .before .if1 .taken))
 
 returns-2 : tie.Need-returns-2
-returns-2 c =
-    let a = c .before .before .before .before .before .before .args in let m = now (a .image) in
-    rw (c .unmoved .ensures) (write-short m (a .at) (now (a .words)) (a .s) (a .self) (row-1 m (ready-is m 1 (sym (c .before .before .ready .ensures) ∙ c .before .match .keys1) (omega arith))))
+returns-2 c = let a = c .before .before .before .before .before .before .before .before .before .args in let m = now (a .image) in absurd (passed-on (subst (λ (p : Power). Passed p m (not (liveOf p .held))) (c .before .enum-told .given .1) (write-passes m (a .at) (now (a .words)) (a .s) (a .self) (c .before .before .before .before .before .before .session-row .ensures) (c .before .before .before .before .front .ensures) (c .before .before .before .if1 .left))))
+
+read-layout-requires : tie.Need-read-layout-requires
+read-layout-requires c κs = let a = c .before .before .before .before .before .before .before .before .before .before .args in let m = now (a .image) in let h = passed-good (write-passes m (a .at) (now (a .words)) (a .s) (a .self) (c .before .before .before .before .before .before .before .session-row .ensures) (c .before .before .before .before .before .front .ensures) (c .before .before .before .before .if1 .left)) .header in omega arith
 
 returns-3 : tie.Need-returns-3
-returns-3 c =
-    let a = c .before .before .before .before .before .before .args in let m = now (a .image) in
-    let h = row-2 m (ready-is m 2 (sym (c .before .before .ready .ensures) ∙ c .before .match .keys2) (omega arith)) in
-    rw (c .unmoved2 .ensures) (write-header m (a .at) (now (a .words)) (a .s) (a .self) (h .0) (h .1))
+returns-3 c = let a = c .before .before .before .before .before .before .before .before .before .before .before .before .before .before .args in let m = now (a .image) in let l : Live = c .before .before .before .before .before .before .power .given .0 .0 in let e : a .self ≡ onSession l = ap (λ (p : Power). record { power = p }) (c .before .before .before .before .before .before .power .given .1) in rw (c .refused .ensures) (write-counts m (a .at) (now (a .words)) (a .s) l (subst (λ (p : Power). Passed p m (not (liveOf p .held))) (c .before .before .before .before .before .before .power .given .1) (write-passes m (a .at) (now (a .words)) (a .s) (a .self) (c .before .before .before .before .before .before .before .before .before .before .before .session-row .ensures) (c .before .before .before .before .before .before .before .before .before .front .ensures) (c .before .before .before .before .before .before .before .before .if1 .left))) (sym (rw (c .before .before .before .read-layout .ensures) at (c .before .before .bad-data .ensures)) ∙ c .before .if2 .taken) ∙ ap (λ (v : Session). firstOf (writeOf changeStores v m (a .at) (now (a .words)) (a .s))) (sym e))
+
+store-requires : tie.Need-store-requires
+store-requires c κs = let a = c .before .before .before .before .before .before .before .before .before .before .before .before .before .before .args in let m = now (a .image) in (rw (c .before .before .before .read-layout .ensures) (passed-good (write-passes m (a .at) (now (a .words)) (a .s) (a .self) (c .before .before .before .before .before .before .before .before .before .before .before .session-row .ensures) (c .before .before .before .before .before .before .before .before .before .front .ensures) (c .before .before .before .before .before .before .before .before .if1 .left))), sym (c .before .before .bad-data .ensures) ∙ c .before .if2 .left)
 
 returns-4 : tie.Need-returns-4
-returns-4 c =
-    let a = c .before .before .before .before .before .before .args in let m = now (a .image) in
-    let h = row-3 m (ready-is m 3 (sym (c .before .before .ready .ensures) ∙ c .before .match .keys3) (omega arith)) in
-    rw (c .unmoved3 .ensures) (write-content m (a .at) (now (a .words)) (a .s) (a .self) (h .0) (h .1) (h .2))
-
-returns-5 : tie.Need-returns-5
-returns-5 c =
-    let a = c .before .before .before .before .before .before .before .before .before .before .before .before .before .before .args in let m = now (a .image) in
-    let r = c .before .before .before .before .before .before .before .before .before .match .rest in
-    let z = ready-left m (c .before .before .before .before .before .before .before .before .before .before .ready .ensures) (r .0 .0 .1) (r .0 .1) (r .1) in
-    let h = check-0 m _ (row-good m z) in
-    let l : Live = c .before .before .before .before .before .before .before .power .given .0 .0 in
-    let e : a .self ≡ onSession l = ap (λ (p : Power). record { power = p }) (c .before .before .before .before .before .before .before .power .given .1) in
-    c .before .before .writing .ensures
-    ∙ ap (λ (y : Layout). gated l y m [] (badData y (a .at) (now (a .words))) (writeEnd l y m (a .at) (now (a .words)) (a .s))) (c .before .before .before .before .read-layout .ensures)
-    ∙ sym (write-live m (a .at) (now (a .words)) (a .s) l (h .0) (h .1) (h .2))
-    ∙ ap (λ (v : Session). writeOf v m (a .at) (now (a .words)) (a .s)) (sym e)
+returns-4 c = let a = c .before .before .before .before .before .before .before .before .before .before .before .before .before .before .before .before .before .args in let m = now (a .image) in let l : Live = c .before .before .before .before .before .before .before .before .before .power .given .0 .0 in let e : a .self ≡ onSession l = ap (λ (p : Power). record { power = p }) (c .before .before .before .before .before .before .before .before .before .power .given .1) in (rw (c .before .before .before .before .before .before .read-layout .ensures) at (c .before .before .store .ensures)) ∙ write-live m (a .at) (now (a .words)) (a .s) l (subst (λ (p : Power). Passed p m (not (liveOf p .held))) (c .before .before .before .before .before .before .before .before .before .power .given .1) (write-passes m (a .at) (now (a .words)) (a .s) (a .self) (c .before .before .before .before .before .before .before .before .before .before .before .before .before .before .session-row .ensures) (c .before .before .before .before .before .before .before .before .before .before .before .before .front .ensures) (c .before .before .before .before .before .before .before .before .before .before .before .if1 .left))) (sym (rw (c .before .before .before .before .before .before .read-layout .ensures) at (c .before .before .before .before .before .bad-data .ensures)) ∙ c .before .before .before .before .if2 .left) ∙ ap (λ (v : Session). firstOf (writeOf changeStores v m (a .at) (now (a .words)) (a .s))) (sym e)
 
 pub write-spec : {M : Type 1} → statement M
 write-spec =
     tie.close
-    (tie.spec (λ c κs. search needs) (λ c κs. search needs) (λ c κs. search needs) (λ c κs. search needs)
-    (λ c. search needs) (λ c. search needs) (λ c κs. search needs) (λ c. search needs) returns read-layout-requires writing-requires
-    (λ c. search needs) returns-2 (λ c. search needs) returns-3 (λ c. search needs) returns-4 (λ c. search needs) returns-5)
+    (tie.spec (search needs) (search needs) answer-of-requires (search needs) (search needs) returns (search needs)
+    (search needs) (search needs) (search needs) returns-2 read-layout-requires (search needs) (search needs)
+    (search needs) returns-3 store-requires (search needs) returns-4)

@@ -1,5 +1,4 @@
 -- `tag::acting::command` meets its contract: wrong, broken, Req_RN straight to its end, or decided and performed. Assumes nothing.
-use Prim.Native.Nat.{ℕ}
 use mathlib.Core.Path.{_≡_, sym, ap, _∙_}
 use denote.Ref.{now}
 use Rattle.image.specs.Layout.{layoutOf}
@@ -7,10 +6,9 @@ use Rattle.frames.specs.declared.Order.{Order}
 use Rattle.frames.specs.declared.Order.the-variants as order
 use Rattle.replies.specs.declared.Reply.the-variants as reply
 use Rattle.states.specs.Commands.{asksOf, linkOf, wrongBy, breaks, numbered}
-use Rattle.states.proofs.Gates.{gate-wrong, gate-broken, gate-open, number-only, passes-handle}
-use Rattle.plans.specs.Steps.{planOf}
-use Rattle.tag.specs.Steps.{orderOf, performOf}
-use Rattle.tag.proofs.Plans.{tell-any, command-wrong, command-broken, command-order, plan-sound, plan-performs, good-long}
+use Rattle.states.proofs.Gates.{gate-wrong, gate-broken, gate-open, number-only}
+use Rattle.tag.specs.Steps.{orderOf}
+use Rattle.tag.proofs.Plans.{tell-any, command-wrong, command-broken, command-order, plan-sound, plan-performs, handle-performs, good-long}
 use borrow.Author.Needs.{needs}
 use Rattle.tag.proofs.acting.command.Statement.{statement}
 use Rattle.tag.proofs.acting.command.Tie as tie
@@ -46,10 +44,8 @@ returns-4 : tie.Need-returns-4
 returns-4 c = let a = c .before .before .before .before .before .before .before .before .before .before .before .before .before .before .before .before .before .before .args in let m = now (a .image) in let y = layoutOf m in
     let k = linkOf (a .l .state) in let p = wrongBy (a .l .state) (a .c .number) (asksOf (a .c .order)) in let q = breaks y m k (k .half) (asksOf (a .c .order) .part) in
     let t = gate-open p q (c .before .before .before .before .before .before .before .before .before .before .before .before .before .gate .ensures) (c .before .before .before .before .before .before .before .before .before .before .before .if2 .left) in
-    let handle : a .c .number ≡ linkOf (a .l .state) .handle = passes-handle (a .l .state) (asksOf (a .c .order)) (a .c .number) (t .0) (sym (c .before .before .before .before .before .before .before .before .before .before .is-number .ensures) ∙ c .before .before .before .before .before .before .before .before .before .if3 .left) in
     (rw (c .before .before .before .before .before .before .before .decide .ensures) at (c .before .before .before .before .perform .ensures))
-    ∙ ap (λ (h : ℕ). performOf (a .l) h y m (now (a .frame)) (now (a .room)) (a .s) (planOf y m (now (a .frame)) (a .fresh) (a .l .state) (a .c .order))) handle
-    ∙ plan-performs (a .l) y m (now (a .frame)) (a .fresh) (now (a .room)) (a .s) (a .c .order)
+    ∙ handle-performs (a .l) y m (now (a .frame)) (a .fresh) (now (a .room)) (a .s) (a .c .number) (a .c .order) (t .0)
     ∙ command-order (a .l) y m (now (a .frame)) (a .fresh) (now (a .room)) (a .s) (a .c) (t .0) (t .1)
 
 pub command-spec : {M : Type 1} → statement M

@@ -25,7 +25,7 @@ store-mask-requires : tie.Need-store-mask-requires
 store-mask-requires c κs = let h = rw (c .before .before .before .before .before .plan8 .given .1) at (c .before .before .before .before .before .before .before .before .before .before .pre .1) in (rw (c .before .before .work-at4 .ensures) (h .0), omega (arith, h .1), h .2)
 
 returns : tie.Need-returns
-returns c = rw (c .before .before .before .before .before .before .plan .given .1) (c .before .before .give-error .ensures)
+returns c = rw (c .before .before .before .before .before .before .before .plan .given .1) (rw (c .before .before .before .before .before .fault-number .ensures) at (c .before .before .give-error .ensures))
 
 returns-2 : tie.Need-returns-2
 returns-2 c = let a = c .before .before .before .before .before .before .before .before .args in
@@ -54,4 +54,4 @@ returns-8 c = rw (c .before .before .before .before .before .before .before .bef
 pub perform-spec : {M : Type 1} → statement M
 perform-spec =
     tie.close
-    (tie.spec (λ c. search needs) (λ c κs. search needs) (λ c. search needs) (λ c κs. search needs) (λ c κs. search needs) (λ c. search needs) (λ c κs. search needs) (λ c. search needs) give-words-requires (λ c. search needs) (λ c κs. search needs) store-word-requires (λ c. search needs) (λ c κs. search needs) store-bits-requires (λ c. search needs) (λ c κs. search needs) store-zeros-requires (λ c. search needs) (λ c κs. search needs) store-mask-requires (λ c. search needs) (λ c. search needs) returns returns-2 (λ c. search needs) (λ c. search needs) returns-3 (λ c. search needs) (λ c. search needs) returns-4 (λ c. search needs) (λ c. search needs) returns-5 (λ c. search needs) (λ c. search needs) returns-6 (λ c. search needs) (λ c. search needs) returns-7 (λ c. search needs) (λ c. search needs) returns-8)
+    (tie.spec (λ c. search needs) (λ c κs. search needs) (λ c κs. search needs) (λ c. search needs) (λ c κs. search needs) (λ c κs. search needs) (λ c. search needs) (λ c κs. search needs) (λ c. search needs) give-words-requires (λ c. search needs) (λ c κs. search needs) store-word-requires (λ c. search needs) (λ c κs. search needs) store-bits-requires (λ c. search needs) (λ c κs. search needs) store-zeros-requires (λ c. search needs) (λ c κs. search needs) store-mask-requires (λ c. search needs) (λ c. search needs) returns returns-2 (λ c. search needs) (λ c. search needs) returns-3 (λ c. search needs) (λ c. search needs) returns-4 (λ c. search needs) (λ c. search needs) returns-5 (λ c. search needs) (λ c. search needs) returns-6 (λ c. search needs) (λ c. search needs) returns-7 (λ c. search needs) (λ c. search needs) returns-8)

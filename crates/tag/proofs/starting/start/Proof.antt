@@ -16,7 +16,7 @@ use Rattle.tag.proofs.starting.start.Tie as tie
 returns : tie.Need-returns
 unfolding started
 returns c = let a = c .before .before .before .before .before .before .before .before .before .args in
-    let n : length (powerStores (a .y) (now (a .image))) ≡ c .before .before .before .before .before .before .needed .result = sym (c .before .before .before .before .before .before .needed .ensures) in
+    let n : length (powerStores (a .y) (now (a .image))) ≡ c .before .before .before .before .before .before .needed-up .result = sym (c .before .before .before .before .before .before .needed-up .ensures) in
     let p = c .before .before .before .before .power .ensures in
     let l : a .s < length (powerStores (a .y) (now (a .image))) = omega (arith, n, c .before .if1 .taken) in
     let k : c .before .before .before .before .power .result ≡ a .s = omega (arith, p .made, l) in
@@ -25,7 +25,7 @@ returns c = let a = c .before .before .before .before .before .before .before .b
 returns-2 : tie.Need-returns-2
 unfolding started
 returns-2 c = let a = c .before .before .before .before .before .before .before .before .before .before .args in
-    let n : length (powerStores (a .y) (now (a .image))) ≡ c .before .before .before .before .before .before .before .needed .result = sym (c .before .before .before .before .before .before .before .needed .ensures) in
+    let n : length (powerStores (a .y) (now (a .image))) ≡ c .before .before .before .before .before .before .before .needed-up .result = sym (c .before .before .before .before .before .before .before .needed-up .ensures) in
     let p = c .before .before .before .before .before .power .ensures in
     let l : length (powerStores (a .y) (now (a .image))) ≤ a .s = omega (arith, n, c .before .before .if1 .left) in
     let k : c .before .before .before .before .before .power .result ≡ length (powerStores (a .y) (now (a .image))) = omega (arith, p .made, l) in

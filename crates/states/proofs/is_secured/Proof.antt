@@ -1,0 +1,11 @@
+-- `states::is_secured` meets its contract: the number decides. Assumes nothing.
+use borrow.Author.Needs.{needs}
+use Rattle.states.proofs.is_secured.Statement.{statement}
+use Rattle.states.proofs.is_secured.Tie as tie
+
+returns : tie.Need-returns
+returns c = rw (c .state-number .ensures)
+
+pub is-secured-spec : {M : Type 1} → statement M
+is-secured-spec = tie.close
+    (tie.spec (search needs) returns)
