@@ -21,8 +21,8 @@ use Rattle.tag.specs.declared.Session.{Session}
 use Rattle.tag.specs.Session.{offSession}
 use Rattle.tag.specs.Port.{bitOf}
 use Rattle.capi.specs.declared.Record.{Record}
-use Rattle.capi.specs.Records.{coveredIn, coverIn, halfIn, upperIn, recordWith, plain, linkedRecord, recordIn, recordOf, coverOf, halfOf, linkFrom, onOf, looseOf, same, sessionOf}
-use Rattle.capi.specs.Steps.{stateFrom, nearOf, flagsFit, numbersFit, isBare, stateFits, fitsOf}
+use Rattle.capi.specs.Records.{coveredIn, coverIn, halfIn, upperIn, recordWith, linkedRecord, recordIn, recordOf, coverOf, halfOf, linkFrom, onOf, looseOf, same, sessionOf}
+use Rattle.capi.specs.Steps.{plain, stateFrom, nearOf, flagsFit, numbersFit, isBare, stateFits, fitsOf}
 use Rattle.capi.specs.Laws.{same-is}
 
 or-left : (a b : ℕ) → a ≤ bitOr a b

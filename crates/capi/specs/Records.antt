@@ -9,6 +9,7 @@ use Rattle.states.specs.declared.Half.the-variants as half
 use Rattle.states.specs.declared.Link.{Link}
 use Rattle.states.specs.declared.State.{State}
 use Rattle.states.specs.declared.State.the-variants as state
+use Rattle.states.specs.Commands.{linkOf, stateNumber}
 use Rattle.tag.specs.declared.Live.{Live}
 use Rattle.tag.specs.declared.Power.{Power}
 use Rattle.tag.specs.declared.Power.the-variants as power
@@ -51,18 +52,11 @@ recordWith l st n c h =
       upper = upperIn h;
     }
 
-abbrev pub plain : Live → ℕ → ℕ → Record
-plain l st n = recordWith l st n cover.Nothing half.Nothing
-
 abbrev pub linkedRecord : Live → ℕ → Link → Record
 linkedRecord l st k = recordWith l st (k .handle) (k .cover) (k .half)
 
 abbrev pub recordIn : Live → State → Record
-recordIn l state.Arbitrate = plain l 1 0
-recordIn l (state.Acknowledged n) = plain l 2 n
-recordIn l (state.Open k) = linkedRecord l 3 k
-recordIn l (state.Secured k) = linkedRecord l 4 k
-recordIn l state.Killed = plain l 5 0
+recordIn l st = linkedRecord l (stateNumber st) (linkOf st)
 
 abbrev pub blank : Record
 blank =

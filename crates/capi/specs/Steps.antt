@@ -1,16 +1,23 @@
--- A record read as the code reads it: which records are those of sessions under power, and of which. Equal to `sessionOf` by `fit-near`
+-- A record written and read as the code does it: which records are those of sessions under power, and of which. Equal to `sessionOf` by `fit-near`
 -- and `unfit-off`. Assumes nothing.
 use Prim.Native.Nat.{ℕ}
 use mathlib.Core.Bool.{Bool, cond, not, _&&_, _||_}
 use lib.Dec.{eqb, leb, ltb}
 use lib.Bits.{bitOr}
+use Rattle.states.specs.declared.Cover.the-variants as cover
+use Rattle.states.specs.declared.Half.the-variants as half
 use Rattle.states.specs.declared.Link.{Link}
 use Rattle.states.specs.declared.State.{State}
 use Rattle.states.specs.declared.State.the-variants as state
+use Rattle.tag.specs.declared.Live.{Live}
 use Rattle.tag.specs.declared.Session.{Session}
 use Rattle.capi.specs.declared.Record.{Record}
 use Rattle.capi.specs.declared.Told.{Told}
-use Rattle.capi.specs.Records.{linkFrom, onOf}
+use Rattle.capi.specs.Records.{recordWith, linkFrom, onOf}
+
+-- the record of a state that has no link
+abbrev pub plain : Live → ℕ → ℕ → Record
+plain l st n = recordWith l st n cover.Nothing half.Nothing
 
 -- the state of a record that has one: with a link or without
 abbrev pub linkedState : ℕ → Link → State

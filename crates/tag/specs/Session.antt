@@ -18,7 +18,7 @@ on state held register = record { power = power.On (record { state = state; held
 abbrev pub clear : Register
 clear = record { unwritten = false; killed = false }
 
--- a new session, for cases: port free, register 0
+-- a new session as steps and cases write it: port free, register 0 (2.7 itself: Power)
 abbrev pub newSession : State → Session
 newSession state = on state false clear
 
