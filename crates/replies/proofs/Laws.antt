@@ -18,7 +18,7 @@ use Rattle.replies.specs.Replies.{checked, replyBits, replyLength}
 use Rattle.replies.specs.Steps.{replyBytes}
 use Rattle.bits.specs.Bits.{wordsBits}
 use Rattle.replies.specs.declared.Reply.{Reply}
-use Rattle.replies.specs.declared.Reply.the-variants.{Silence, Number, Success, Words, Error}
+use Rattle.replies.specs.declared.Reply.the-variants.{Silence, Number, Success, Words, Error, Drawn, Epc}
 
 pub packed-none : (room : List ℕ) → packed [] room ≡ room
 unfolding packed
@@ -52,6 +52,8 @@ length-reply m (Number n) = simp (length-append, length-bits)
 length-reply m (Success h) = simp (length-append, length-bits)
 length-reply m (Words i k h) = simp (length-append, length-bits, length-words m i k) (omega arith)
 length-reply m (Error e h) = simp (length-append, length-bits)
+length-reply m (Drawn n) = length-bits 16 n
+length-reply m (Epc i k) = simp (length-append, length-bits, length-words m i k)
 
 pub bits-words : (m : List ℕ) (i k : ℕ) → Bits (wordsBits m i k)
 unfolding wordsBits
@@ -70,6 +72,8 @@ bits-reply m (Words i k h) =
     bits-checked (0 ∷ (wordsBits m i k ++ bitsOf 16 h)) (omega arith, bits-and (wordsBits m i k) (bitsOf 16 h) (bits-words m i k) (bits-of 16 h))
 bits-reply m (Error e h) =
     bits-checked (1 ∷ (bitsOf 8 e ++ bitsOf 16 h)) (omega arith, bits-and (bitsOf 8 e) (bitsOf 16 h) (bits-of 8 e) (bits-of 16 h))
+bits-reply m (Drawn n) = bits-of 16 n
+bits-reply m (Epc i k) = bits-checked (wordsBits m i k) (bits-words m i k)
 
 filled-lt : (w : ℕ) (bs : List ℕ) → Bits bs → filled w bs < 2 ^ w
 unfolding filled

@@ -14,9 +14,9 @@ use Rattle.crc.proofs.Runs.{run-append}
 use Rattle.replies.specs.Pack.{filled, packed}
 use Rattle.replies.specs.Replies.{checked}
 use Rattle.bits.specs.Bits.{wordsBits}
-use Rattle.replies.specs.Steps.{withBytes, late, ended}
+use Rattle.replies.specs.Steps.{withBytes, late, ended, Seen}
 use Rattle.bits.proofs.Fields.{field-lt, words-four}
-use Rattle.replies.proofs.Laws.{packed-none}
+use Rattle.replies.proofs.Laws.{packed-none, length-words}
 use Rattle.replies.proofs.Packing.{next, next-bytes}
 
 -- the bits so far: all but the last, which is that of `before`, fill the i first bytes of the room; the register has seen them all
@@ -106,3 +106,40 @@ module _ (m : List ℕ) (known : (i : ℕ) → getD m i 0 < 256) where
   four-more from j {w = w} p e q =
       let n : 2 * (j + 4) ≡ 2 * j + 8 = omega arith in
       rw (n, words-four m known from j, ← e) (wrote p 63 8 w refl (rw e (field-lt m (16 * (from + j)) 64)) q)
+
+-- the whole bytes of a number behind bits that are whole bytes
+behind : (bits first : List ℕ) {room : List ℕ} (i k v : ℕ) → length bits ≡ 8 * i → room ≡ packed bits first → withBytes k room i v ≡ packed (bits ++ bitsOf (8 * k) v) first
+behind bits first i k v l e = ap (λ (r : List ℕ). withBytes k r i v) e ∙ sym (next-bytes k i bits v first l)
+
+-- a number alone
+pub alone : (n : ℕ) (room : List ℕ) → withBytes 2 room 0 n ≡ packed (bitsOf 16 n) room
+alone n room = behind [] room 0 2 n refl (sym (packed-none room))
+
+module _ (m : List ℕ) (from j : ℕ) {first room : List ℕ} {r : ℕ} (p : Seen m from j first room r) where
+  full : length (wordsBits m from j) ≡ 8 * (2 * j)
+  full = length-words m from j ∙ omega arith
+
+  -- words more that are one number
+  more : (k n w : ℕ) {s : ℕ} → wordsBits m from (j + n) ≡ wordsBits m from j ++ bitsOf (8 * k) w → s ≡ run r (bitsOf (8 * k) w)
+      → Seen m from (j + n) first (withBytes k room (2 * j) w) s
+  more k n w e q =
+      record {
+        stands = behind (wordsBits m from j) first (2 * j) k w full (p .stands) ∙ ap (λ (bs : List ℕ). packed bs first) (sym e);
+        seen =
+            q
+            ∙ ap (λ (x : ℕ). run x (bitsOf (8 * k) w)) (p .seen)
+            ∙ sym (ap (run 0xFFFF) e ∙ run-append 0xFFFF (wordsBits m from j) (bitsOf (8 * k) w));
+      }
+
+  pub seen-one : {w s : ℕ} → w ≡ wordAt m (from + j) → s ≡ run r (bitsOf 16 w) → Seen m from (j + 1) first (withBytes 2 room (2 * j) w) s
+  unfolding wordsBits
+  seen-one {w = w} e q = more 2 1 w (rw (add-one j, e)) q
+
+  pub seen-four : ((i : ℕ) → getD m i 0 < 256) → {w s : ℕ} → w ≡ fieldAt m (16 * (from + j)) 64 → s ≡ run r (bitsOf 64 w)
+      → Seen m from (j + 4) first (withBytes 8 room (2 * j) w) s
+  seen-four known {w = w} e q = more 8 4 w (rw e (words-four m known from j)) q
+
+  -- the CRC-16 behind them
+  pub seen-all : withBytes 2 room (2 * j) (65535 - r) ≡ packed (checked (wordsBits m from j)) first
+  unfolding checked crcOf
+  seen-all = rw (p .seen) (behind (wordsBits m from j) first (2 * j) 2 (65535 - run 0xFFFF (wordsBits m from j)) full (p .stands))

@@ -1,14 +1,14 @@
 // Replies out: bits into a lent room, the first bit highest (RULES 3.9 to 3.11).
 ghost use mathlib.Core.Path.{_≡_};
 ghost use mathlib.Core.List.{[]};
-ghost use Prim.Native.Nat.{_+_, _-_, _*_, _%_, _≤_, _<_};
+ghost use Prim.Native.Nat.{_+_, _-_, _*_, _/_, _%_, _≤_, _<_};
 ghost use lib.ListN.{length, replicate};
 ghost use Rattle.bits.specs.Bits.{bitsOf};
 ghost use Rattle.crc.specs.Crc.{run};
 ghost use Rattle.replies.specs.Replies.{replyBits};
 ghost use Rattle.bits.specs.Bits.{wordsBits};
 ghost use Rattle.replies.specs.Pack.{packed};
-ghost use Rattle.replies.specs.Steps.{withBytes, late, ended};
+ghost use Rattle.replies.specs.Steps.{withBytes, late, ended, Seen};
 
 // A reply, as the definitions name it. Words are the image's: the first, and how many.
 pub enum Reply {
@@ -17,6 +17,8 @@ pub enum Reply {
     Success(u16),
     Words(u16, u16, u16),
     Error(u8, u16),
+    Drawn(u16),
+    Epc(u16, u16),
 }
 
 fn from_byte(b: u8) -> u64
@@ -140,6 +142,46 @@ pub fn put_success(room: &mut [u8], image: &[u8], handle: u16)
     ensures { λ _. ⌜ now (room .exit) ≡ packed (replyBits (now (image .entry)) (Reply.Success handle)) (now (room .entry)) ⌝ }
 {
     put_words(room, image, 0, 0, handle);
+}
+
+// A number alone.
+pub fn put_drawn(room: &mut [u8], number: u16)
+    requires { ⌜ 1 < length (now room) ⌝ }
+    ensures { λ _. ⌜ now (room .exit) ≡ packed (replyBits [] (Reply.Drawn number)) (now (room .entry)) ⌝ }
+{
+    store_two(room, 0, from_word(number));
+}
+
+// As many times four words of the image as `count` has, and the CRC-16's register after them.
+fn put_fours(room: &mut [u8], image: &[u8], from: usize, count: usize) -> u16
+    requires { ⌜ (2 * (from + count) ≤ length (now image)) × (2 * count ≤ length (now room)) ⌝ }
+    ensures { λ r. ⌜ Seen (now (image .entry)) from (count / 4 * 4) (now (room .entry)) (now (room .exit)) r ⌝ }
+{
+    let mut register: u16 = 0xFFFF;
+    let mut j: usize = 0;
+    while j + 4 <= count {
+        let w = bits::four_words(image, from + j);
+        store_eight(room, 2 * j, w);
+        register = crc::step64(register, w);
+        j += 4;
+    }
+    register
+}
+
+// Words of the image and the CRC-16 over them.
+pub fn put_epc(room: &mut [u8], image: &[u8], from: usize, count: usize)
+    requires { ⌜ (2 * (from + count) ≤ length (now image)) × (2 * count + 2 ≤ length (now room)) ⌝ }
+    ensures { λ _. ⌜ now (room .exit) ≡ packed (replyBits (now (image .entry)) (Reply.Epc from count)) (now (room .entry)) ⌝ }
+{
+    let mut register = put_fours(room, image, from, count);
+    let mut j = count / 4 * 4;
+    while j < count {
+        let w = bits::word_in(image, from + j);
+        store_two(room, 2 * j, from_word(w));
+        register = crc::step16(register, w);
+        j += 1;
+    }
+    store_two(room, 2 * count, from_word(!register));
 }
 
 // Packs words of the image alone, as the port gives them.
