@@ -1,7 +1,7 @@
 -- Runs of the register, in turns of one bit and of eight bytes. Assumes nothing.
 use Prim.Native.Nat.{ℕ, suc, _+_, _-_, _*_, _/_, _<_, _≤_}
-use mathlib.Core.Path.{_≡_, refl, sym, ap, ap₂, _∙_}
-use mathlib.Core.List.{List, [], _∷_, _++_}
+use mathlib.Core.Path.{_≡_, sym, ap, ap₂, _∙_}
+use mathlib.Core.List.{List, _++_}
 use native.Mathlib.Omega.{arith}
 use lib.ListN.{getD}
 use Rattle.bits.specs.Bits.{bitsFrom, bitAt, bitsOf, fieldAt}
@@ -9,10 +9,10 @@ use Rattle.bits.specs.Words.{wordAt}
 use Rattle.bits.proofs.Bits.{bits-append, word-bits, byte-tail}
 use Rattle.bits.proofs.Fields.{field-bits}
 use Rattle.crc.specs.Crc.{run, shift}
+use Rattle.crc.proofs.Linear.{of16, run-on}
 
 pub run-append : (r : ℕ) (xs ys : List ℕ) → run r (xs ++ ys) ≡ run (run r xs) ys
-run-append r [] ys = refl
-run-append r (x ∷ xs) ys = run-append (shift r x) xs ys
+run-append = run-on of16
 
 -- a word and a byte are 24 bits
 pub word-byte : (m : List ℕ) (n f : ℕ) {w r s : ℕ} → n ≡ 24 → getD m 1 0 < 256 → w ≡ wordAt m 0 → r ≡ run f (bitsOf 16 w) → s ≡ run r (bitsOf 8 (getD m 2 0)) → s ≡ run f (bitsFrom m 0 n)

@@ -2,8 +2,8 @@
 use Prim.Native.Nat.{ℕ, zero, suc, _+_, _*_, _/_, _%_, _^_, _<_, _≤_}
 use mathlib.Core.Path.{_≡_, refl, sym, ap, ap₂, _∙_}
 use mathlib.Core.Bool.{Bool, true}
-use mathlib.Core.List.{_∷_}
-use native.Mathlib.Nat.{mod-lt, mul-le-mul-right}
+use mathlib.Core.List.{List, _∷_}
+use native.Mathlib.Nat.{mod-lt, mod-eq-of-lt, mul-le-mul-right, suc-mul}
 use native.Mathlib.Omega.{arith}
 use lib.Dec.{eqb}
 use borrow.Author.Tests.{eqb-true}
@@ -11,9 +11,8 @@ use Rattle.bits.specs.Below.{every}
 use lib.Pow.{pow-pos, pow-add, shr-lt, split, high, low}
 use lib.Bits.{bitXor, xor-shr, xor-mod, xor-self, xor-shifted}
 use Rattle.bits.specs.Bits.{bitsOf}
-use Rattle.crc.specs.Crc.{run}
 use Rattle.crc.proofs.Xor.{xor-medial, xor-shl}
-use Rattle.crc.proofs.Linear.{Same, zip, run-linear}
+use Rattle.crc.proofs.Linear.{Register, Same, zip, run-linear}
 use Rattle.bits.proofs.Below.{every-at}
 use Rattle.bits.proofs.Bits.{low-bits}
 use Rattle.bits.proofs.Digits.{bits-of}
@@ -37,8 +36,11 @@ right k = record { sums = λ a b. xor-shr a b k }
 pub cut : (w : ℕ) → Linear (λ x. x % 2 ^ w)
 cut w = record { sums = λ a b. xor-mod a b w }
 
+pub up : (k : ℕ) → Linear (λ x. x * 2 ^ k)
+up k = record { sums = λ a b. sym (xor-shl k a b) }
+
 pub left : (w k : ℕ) → Linear (λ x. x * 2 ^ k % 2 ^ w)
-left w k = then (record { sums = λ a b. sym (xor-shl k a b) }) (cut w)
+left w k = then (up k) (cut w)
 
 -- where two of them agree at each power of two, they agree
 linear-zero : {f : ℕ → ℕ} → Linear f → f 0 ≡ 0
@@ -61,10 +63,6 @@ agree (suc n) {f} {g} l m t x h =
     ∙ ap₂ bitXor (top (x / 2 ^ n) (2 ^ n) a l m (t n (omega arith))) (agree n l m (λ i s. t i (omega arith)) (x % 2 ^ n) b)
     ∙ sym (ap g e ∙ m .sums (x / 2 ^ n * 2 ^ n) (x % 2 ^ n))
 
--- n shifts, of a register and n bits that stand in one number
-unfoldable pub shifts : ℕ → ℕ → ℕ
-shifts n u = run (u / 2 ^ n % 65536) (bitsOf n u)
-
 same-bits : (n x y : ℕ) → Same (bitsOf n x) (bitsOf n y)
 unfolding bitsOf
 same-bits zero x y = tt
@@ -75,48 +73,54 @@ unfolding bitsOf
 zip-bits zero x y = refl
 zip-bits (suc n) x y = ap₂ _∷_ (sym (then (right n) (cut 1) .sums x y)) (zip-bits n x y)
 
-shifts-linear : (n : ℕ) → Linear (shifts n)
-unfolding shifts
-shifts-linear n =
-    record {
-      sums = λ a b.
-          ap₂ run (then (right n) (cut 16) .sums a b) (sym (zip-bits n a b))
-          ∙ run-linear (bitsOf n a) (bitsOf n b) (a / 2 ^ n % 65536) (b / 2 ^ n % 65536) (omega arith) (omega arith) (bits-of n a) (bits-of n b) (same-bits n a b);
-    }
+below-all : (r p q w : ℕ) → r < q → w < p → r * p + w < q * p
+below-all r p q w hr hw = let h : suc r * p ≤ q * p = mul-le-mul-right p hr in omega (arith, suc-mul r p)
 
--- n shifts of the register 0
-pub zero-linear : (n : ℕ) → Linear (λ u. run 0 (bitsOf n u))
-zero-linear n =
-    record {
-      sums = λ a b.
-          ap (run 0) (sym (zip-bits n a b))
-          ∙ run-linear (bitsOf n a) (bitsOf n b) 0 0 (omega arith) (omega arith) (bits-of n a) (bits-of n b) (same-bits n a b);
-    }
+module _ {k : ℕ} {run : ℕ → List ℕ → ℕ} (R : Register k run) where
+  -- n shifts, of a register and n bits that stand in one number
+  unfoldable pub shifts : ℕ → ℕ → ℕ
+  shifts n u = run (u / 2 ^ n % 2 ^ suc k) (bitsOf n u)
 
-unfoldable pub alone : ℕ → (ℕ → ℕ) → ℕ → Bool
-alone n code i = eqb (run 0 (bitsOf n (2 ^ i))) (code (2 ^ i))
+  shifts-linear : (n : ℕ) → Linear (shifts n)
+  unfolding shifts
+  shifts-linear n =
+      record {
+        sums = λ a b.
+            ap₂ run (then (right n) (cut (suc k)) .sums a b) (sym (zip-bits n a b))
+            ∙ run-linear R (bitsOf n a) (bitsOf n b) (a / 2 ^ n % 2 ^ suc k) (b / 2 ^ n % 2 ^ suc k) (mod-lt (a / 2 ^ n) (pow-pos (suc k))) (mod-lt (b / 2 ^ n) (pow-pos (suc k)))
+            (bits-of n a) (bits-of n b) (same-bits n a b);
+      }
 
-pub from-zero : (n : ℕ) (code : ℕ → ℕ) → Linear code → every (alone n code) n ≡ true → (w : ℕ) → w < 2 ^ n → run 0 (bitsOf n w) ≡ code w
-unfolding alone
-from-zero n code l t =
-    agree n (zero-linear n) l (λ i h. eqb-true (run 0 (bitsOf n (2 ^ i))) (code (2 ^ i)) (every-at (alone n code) n t i h))
+  -- n shifts of the register 0
+  pub zero-linear : (n : ℕ) → Linear (λ u. run 0 (bitsOf n u))
+  zero-linear n =
+      record {
+        sums = λ a b.
+            ap (run 0) (sym (zip-bits n a b))
+            ∙ run-linear R (bitsOf n a) (bitsOf n b) 0 0 (pow-pos (suc k)) (pow-pos (suc k)) (bits-of n a) (bits-of n b) (same-bits n a b);
+      }
 
--- the test at the single bits
-unfoldable pub test : ℕ → (ℕ → ℕ → ℕ) → ℕ → Bool
-test n code i = eqb (shifts n (2 ^ i)) (code (2 ^ i / 2 ^ n) (2 ^ i % 2 ^ n))
+  unfoldable pub alone : ℕ → (ℕ → ℕ) → ℕ → Bool
+  alone n code i = eqb (run 0 (bitsOf n (2 ^ i))) (code (2 ^ i))
 
-below-all : (r p w : ℕ) → r < 65536 → w < p → r * p + w < 65536 * p
-below-all r p w hr hw = let h : r * p ≤ 65535 * p = mul-le-mul-right p (omega arith) in omega arith
+  pub from-zero : (n : ℕ) (code : ℕ → ℕ) → Linear code → every (alone n code) n ≡ true → (w : ℕ) → w < 2 ^ n → run 0 (bitsOf n w) ≡ code w
+  unfolding alone
+  from-zero n code l t =
+      agree n (zero-linear n) l (λ i h. eqb-true (run 0 (bitsOf n (2 ^ i))) (code (2 ^ i)) (every-at (alone n code) n t i h))
 
--- n shifts of the register r by the bits of w are what the code makes of the two
-pub steps : (n : ℕ) (code : ℕ → ℕ → ℕ) → Linear (λ u. code (u / 2 ^ n) (u % 2 ^ n)) → every (test n code) (16 + n) ≡ true → (r w : ℕ) → r < 65536 → w < 2 ^ n
-    → run r (bitsOf n w) ≡ code r w
-unfolding shifts test
-steps n code l t r w hr hw =
-    let u = r * 2 ^ n + w in
-    let register : u / 2 ^ n % 65536 ≡ r = rw (high r n hw) (omega arith) in
-    let small : u < 2 ^ (16 + n) = rw (pow-add 2 16 n) (below-all r (2 ^ n) w hr hw) in
-    ap₂ run (sym register) (sym (low-bits n r w))
-    ∙ agree (16 + n) (shifts-linear n) l
-    (λ i h. eqb-true (shifts n (2 ^ i)) (code (2 ^ i / 2 ^ n) (2 ^ i % 2 ^ n)) (every-at (test n code) (16 + n) t i h)) u small
-    ∙ ap₂ code (high r n hw) (low r n hw)
+  -- the test at the single bits
+  unfoldable pub test : ℕ → (ℕ → ℕ → ℕ) → ℕ → Bool
+  test n code i = eqb (shifts n (2 ^ i)) (code (2 ^ i / 2 ^ n) (2 ^ i % 2 ^ n))
+
+  -- n shifts of the register r by the bits of w are what the code makes of the two
+  pub steps : (n : ℕ) (code : ℕ → ℕ → ℕ) → Linear (λ u. code (u / 2 ^ n) (u % 2 ^ n)) → every (test n code) (suc k + n) ≡ true → (r w : ℕ) → r < 2 ^ suc k → w < 2 ^ n
+      → run r (bitsOf n w) ≡ code r w
+  unfolding shifts test
+  steps n code l t r w hr hw =
+      let u = r * 2 ^ n + w in
+      let register : u / 2 ^ n % 2 ^ suc k ≡ r = rw (high r n hw) (mod-eq-of-lt hr) in
+      let small : u < 2 ^ (suc k + n) = rw (pow-add 2 (suc k) n) (below-all r (2 ^ n) (2 ^ suc k) w hr hw) in
+      ap₂ run (sym register) (sym (low-bits n r w))
+      ∙ agree (suc k + n) (shifts-linear n) l
+      (λ i h. eqb-true (shifts n (2 ^ i)) (code (2 ^ i / 2 ^ n) (2 ^ i % 2 ^ n)) (every-at (test n code) (suc k + n) t i h)) u small
+      ∙ ap₂ code (high r n hw) (low r n hw)

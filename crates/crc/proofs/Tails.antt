@@ -14,6 +14,7 @@ use Rattle.bits.proofs.Digits.{bits-join}
 use Rattle.bits.proofs.Fields.{field-lt, field-bits}
 use Rattle.crc.specs.Crc.{run}
 use Rattle.crc.proofs.Runs.{run-append}
+use Rattle.crc.proofs.Linear.{of16}
 use Rattle.crc.proofs.Steps.{Linear, both, then, right, cut, zero-linear, shifts, test, steps}
 
 -- sixteen of them
@@ -22,15 +23,15 @@ code r w = run 0 (bitsOf 16 (bitXor r w))
 
 linear : Linear (λ u. code (u / 2 ^ 16) (u % 2 ^ 16))
 unfolding code
-linear = then (both (right 16) (cut 16)) (zero-linear 16)
+linear = then (both (right 16) (cut 16)) (zero-linear of16 16)
 
-tested : every (test 16 code) 32 ≡ true
+tested : every (test of16 16 code) 32 ≡ true
 unfolding code shifts test bitsOf
 tested = refl
 
 sixteen : (r w : ℕ) → r < 65536 → w < 65536 → run r (bitsOf 16 w) ≡ run 0 (bitsOf 16 (bitXor r w))
 unfolding code
-sixteen = steps 16 code linear tested
+sixteen = steps of16 16 code linear tested
 
 -- j more, by the bits of l
 more : (j r w l : ℕ) → r < 65536 → w < 65536 → l < 2 ^ j → run r (bitsOf (16 + j) (w * 2 ^ j + l)) ≡ run 0 (bitsOf (16 + j) (bitXor r w * 2 ^ j + l))

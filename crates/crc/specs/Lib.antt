@@ -1,1 +1,3 @@
 pub mod Crc
+pub mod Crc5
+pub mod Cases

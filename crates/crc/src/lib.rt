@@ -1,9 +1,10 @@
-// CRC-16 of lent bytes' bits (RULES 2.8): by eight bytes, then the rest at once, or bit by bit where it is under 16 bits.
+// CRC-16 of lent bytes' bits (RULES 2.8): by eight bytes, then the rest at once, or bit by bit where it is under 16 bits. CRC-5 of the first 17.
 ghost use mathlib.Core.Path.{_≡_};
 ghost use Prim.Native.Nat.{_+_, _-_, _/_, _*_, _≤_, _<_};
 ghost use lib.ListN.{length};
 ghost use Rattle.bits.specs.Bits.{bitsFrom, bitsOf, fieldAt};
 ghost use Rattle.crc.specs.Crc.{crcOf, run, shift};
+ghost use Rattle.crc.specs.Crc5.{crc5Of};
 
 // One shift of the register r by the bit b.
 pub fn step(r: u16, b: u16) -> u16
@@ -122,4 +123,16 @@ pub fn crc16(bytes: &[u8], n: usize) -> u16
         i += 1;
     }
     !r
+}
+
+// The CRC-5 of the first 17 bits, with 0 for those past the end. The preset stands at their front; q is the quotient, made by four sparse factors.
+pub fn crc5(bytes: &[u8]) -> u16
+    ensures { λ r. ⌜ r ≡ crc5Of (bitsFrom (now (bytes .entry)) 0 17) ⌝ }
+{
+    let u = (wider(bits::field(bytes, 0, 16)) * 2 + wider(bits::bit(bytes, 16))) ^ 0x9000;
+    let a = u ^ u >> 2 ^ u >> 5;
+    let b = a ^ a >> 4 ^ a >> 10;
+    let c = b ^ b >> 8;
+    let q = c ^ c >> 16;
+    ((q << 3 ^ q) % 32) as u16
 }

@@ -111,7 +111,7 @@ module _ (m : List ℕ) (known : (i : ℕ) → getD m i 0 < 256) where
 behind : (bits first : List ℕ) {room : List ℕ} (i k v : ℕ) → length bits ≡ 8 * i → room ≡ packed bits first → withBytes k room i v ≡ packed (bits ++ bitsOf (8 * k) v) first
 behind bits first i k v l e = ap (λ (r : List ℕ). withBytes k r i v) e ∙ sym (next-bytes k i bits v first l)
 
--- a number alone
+-- a number without a CRC-16
 pub alone : (n : ℕ) (room : List ℕ) → withBytes 2 room 0 n ≡ packed (bitsOf 16 n) room
 alone n room = behind [] room 0 2 n refl (sym (packed-none room))
 

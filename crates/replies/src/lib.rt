@@ -144,7 +144,7 @@ pub fn put_success(room: &mut [u8], image: &[u8], handle: u16)
     put_words(room, image, 0, 0, handle);
 }
 
-// A number alone.
+// A number without a CRC-16.
 pub fn put_drawn(room: &mut [u8], number: u16)
     requires { ⌜ 1 < length (now room) ⌝ }
     ensures { λ _. ⌜ now (room .exit) ≡ packed (replyBits [] (Reply.Drawn number)) (now (room .entry)) ⌝ }

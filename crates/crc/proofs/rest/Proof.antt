@@ -7,6 +7,7 @@ use mathlib.Core.Bool.{true}
 use lib.Bits.{bitXor}
 use Rattle.bits.specs.Bits.{bitsOf}
 use Rattle.bits.specs.Below.{every}
+use Rattle.crc.proofs.Linear.{of16}
 use Rattle.crc.proofs.Steps.{Linear, both, then, same, right, left, cut, alone, from-zero}
 use Rattle.crc.proofs.rest.Statement.{statement}
 use Rattle.crc.proofs.rest.Tie as tie
@@ -36,13 +37,13 @@ linear : Linear code
 unfolding code
 linear = then quotient-linear (then (both (both (left 64 12) (left 64 5)) same) (cut 16))
 
-tested : every (alone 64 code) 64 ≡ true
+tested : every (alone of16 64 code) 64 ≡ true
 unfolding code quotient thrice alone bitsOf
 tested = refl
 
 returns : tie.Need-returns
 unfolding code quotient thrice
-returns c = sym (from-zero 64 code linear tested (c .args .x) (omega arith))
+returns c = sym (from-zero of16 64 code linear tested (c .args .x) (omega arith))
 
 pub rest-spec : {M : Type 1} → statement M
 rest-spec = tie.close

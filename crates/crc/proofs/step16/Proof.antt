@@ -6,6 +6,7 @@ use mathlib.Core.Bool.{true}
 use lib.Bits.{bitXor}
 use Rattle.bits.specs.Bits.{bitsOf}
 use Rattle.bits.specs.Below.{every}
+use Rattle.crc.proofs.Linear.{of16}
 use Rattle.crc.proofs.Steps.{Linear, both, then, same, right, left, cut, shifts, test, steps}
 use Rattle.crc.proofs.step16.Statement.{statement}
 use Rattle.crc.proofs.step16.Tie as tie
@@ -23,13 +24,13 @@ linear =
     let t = both same (right 4) in
     then (then (both (right 16) (cut 16)) (both (both t (then t (right 8))) (right 11))) (both (both (left 16 12) (left 16 5)) same)
 
-tested : every (test 16 code) 32 ≡ true
+tested : every (test of16 16 code) 32 ≡ true
 unfolding code quotient shifts test bitsOf
 tested = refl
 
 returns : tie.Need-returns
 unfolding code quotient
-returns c = sym (steps 16 code linear tested (c .args .r) (c .args .w) (omega arith) (omega arith))
+returns c = sym (steps of16 16 code linear tested (c .args .r) (c .args .w) (omega arith) (omega arith))
 
 pub step16-spec : {M : Type 1} → statement M
 step16-spec = tie.close (tie.spec returns)

@@ -7,6 +7,7 @@ use mathlib.Core.Bool.{true}
 use lib.Bits.{bitXor}
 use Rattle.bits.specs.Bits.{bitsOf}
 use Rattle.bits.specs.Below.{every}
+use Rattle.crc.proofs.Linear.{of16}
 use Rattle.crc.proofs.Steps.{Linear, both, then, same, right, left, cut, shifts, test, steps}
 use Rattle.crc.proofs.step8.Statement.{statement}
 use Rattle.crc.proofs.step8.Tie as tie
@@ -26,14 +27,14 @@ linear =
 wide-requires : tie.Need-wide-requires
 wide-requires c κs = search needs
 
-tested : every (test 8 code) 24 ≡ true
+tested : every (test of16 8 code) 24 ≡ true
 unfolding code tail shifts test bitsOf
 tested = refl
 
 returns : tie.Need-returns
 unfolding code tail
 returns c =
-    ap (code (c .before .args .r)) (c .wide .ensures .0) ∙ sym (steps 8 code linear tested (c .before .args .r) (c .before .args .b) (omega arith) (omega arith))
+    ap (code (c .before .args .r)) (c .wide .ensures .0) ∙ sym (steps of16 8 code linear tested (c .before .args .r) (c .before .args .b) (omega arith) (omega arith))
 
 pub step8-spec : {M : Type 1} → statement M
 step8-spec = tie.close (tie.spec wide-requires returns)
