@@ -1,16 +1,22 @@
 -- The frames without a pointer, one by one, as the code reads them. Assumes nothing.
 use Prim.Native.Nat.{ℕ}
-use mathlib.Core.Bool.{cond}
 use mathlib.Core.List.{List}
-use lib.Dec.{eqb}
 use Rattle.bits.specs.Bits.{fieldAt}
 use Rattle.frames.specs.declared.Order.the-variants as order
 use Rattle.frames.specs.Message.{Message}
-use Rattle.frames.specs.Message as heard
-use Rattle.frames.specs.Frames.{exactly}
+use Rattle.frames.specs.Frames.{exactly, plainly}
+
+abbrev pub queryRepFrame : List ℕ → ℕ → Message
+queryRepFrame m n = plainly n 4 (order.QueryRep (fieldAt m 2 2))
+
+abbrev pub ackFrame : List ℕ → ℕ → Message
+ackFrame m n = plainly n 18 (order.Ack (fieldAt m 2 16))
+
+abbrev pub queryAdjustFrame : List ℕ → ℕ → Message
+queryAdjustFrame m n = plainly n 9 (order.QueryAdjust (fieldAt m 4 2) (fieldAt m 6 3))
 
 abbrev pub nakFrame : ℕ → Message
-nakFrame n = cond (eqb n 8) (heard.said (record { number = 0; order = order.Nak })) (heard.refused 7)
+nakFrame n = plainly n 8 order.Nak
 
 abbrev pub reqRnFrame : List ℕ → ℕ → Message
 reqRnFrame m n = exactly m n 40 order.ReqRn

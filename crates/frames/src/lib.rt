@@ -1,11 +1,11 @@
-// Frames in: from a frame's bits to what it asks for (RULES 3.5 to 3.8).
+// Frames in: from a frame's bits to what it asks for (RULES 3.5 to 3.8 and 11.1).
 ghost use mathlib.Core.Path.{_≡_};
-ghost use Prim.Native.Nat.{_+_, _*_, _≤_, _<_};
+ghost use Prim.Native.Nat.{_+_, _*_, _^_, _≤_, _<_};
 ghost use lib.ListN.{length};
 ghost use Rattle.bits.specs.Bits.{fieldAt};
 ghost use Rattle.frames.specs.Message.{meaning};
-ghost use Rattle.frames.specs.Frames.{heardOf, checksumRight, exactly, span as spanOf, readFrame, writeFrame, blockWriteFrame, blockEraseFrame, permalockFrame};
-ghost use Rattle.frames.specs.Steps.{nakFrame, reqRnFrame, killFrame, lockFrame, accessFrame};
+ghost use Rattle.frames.specs.Frames.{heardOf, checksumRight, toAll, plainly, taken, exactly, span as spanOf, queryFrame, selectFrame, readFrame, writeFrame, blockWriteFrame, blockEraseFrame, permalockFrame};
+ghost use Rattle.frames.specs.Steps.{queryRepFrame, ackFrame, queryAdjustFrame, nakFrame, reqRnFrame, killFrame, lockFrame, accessFrame};
 use ebv::Pointer;
 
 // Words of a bank: the bank's number, the first word and how many. For BlockPermalock the words are PERMA's.
@@ -15,8 +15,28 @@ pub struct Span {
     pub count: u16,
 }
 
-// What a command asks for. Words and halves are as sent, covered. A place is the first bit of the words that the frame brings.
+// An inventory round: its session, 0 to 3, and its Q, 0 to 15.
+pub struct Round {
+    pub session: u8,
+    pub q: u8,
+}
+
+// What a Select says: its target, its action, the bits of a bank that the mask is compared with, and its truncate bit.
+pub struct Choice {
+    pub target: u8,
+    pub action: u8,
+    pub bits: Span,
+    pub truncate: u8,
+}
+
+// What a command asks for. Words and halves are as sent, covered. A place is the first bit of the words, or of the mask, that the frame brings. QueryRep has a session,
+// ACK its number, Query Sel, target and round, QueryAdjust a session and UpDn.
 pub enum Order {
+    QueryRep(u8),
+    Ack(u16),
+    Query(u8, u8, Round),
+    QueryAdjust(u8, u8),
+    Select(Choice, usize),
     Nak,
     ReqRn,
     Read(Span),
@@ -30,7 +50,8 @@ pub enum Order {
     Permalock(u16, Span, usize),
 }
 
-// A command: the number that it carries (0 for NAK, which has none), and what it asks for.
+// A command: the number that it must carry to be for a tag, and what it asks for. The five of inventory and NAK are for every tag, and have 0: an ACK's own number is
+// a part of what it asks for.
 pub struct Command {
     pub number: u16,
     pub order: Order,
@@ -49,6 +70,36 @@ fn checksum_right(frame: &[u8], n: usize) -> bool
     ensures { λ r. ⌜ r ≡ checksumRight (now (frame .entry)) n ⌝ }
 {
     bits::last_word(frame, n) == crc::crc16(frame, n - 16)
+}
+
+fn said(order: Order) -> Heard
+    ensures { λ r. ⌜ r ≡ Heard.Said (toAll order) ⌝ }
+{
+    Heard::Said(Command { number: 0, order })
+}
+
+// The order in a frame of exactly k bits, without a CRC.
+fn plain(n: usize, k: usize, order: Order) -> Heard
+    ensures { λ r. ⌜ meaning r ≡ plainly n k order ⌝ }
+{
+    if n != k {
+        return Heard::Malformed;
+    }
+    said(order)
+}
+
+// The order in a frame of exactly k bits, with a CRC-16 and no number.
+fn summed(frame: &[u8], n: usize, k: usize, order: Order) -> Heard
+    requires { ⌜ (24 ≤ k) × (n ≤ 8 * length (now frame)) ⌝ }
+    ensures { λ r. ⌜ meaning r ≡ taken n k (checksumRight (now (frame .entry)) n) (toAll order) ⌝ }
+{
+    if n != k {
+        return Heard::Malformed;
+    }
+    if !checksum_right(frame, n) {
+        return Heard::Checksum;
+    }
+    said(order)
 }
 
 // The order in a frame of exactly k bits, with the number before the CRC-16.
@@ -88,16 +139,73 @@ fn named(frame: &[u8], at: usize, pointer: u32, w: usize) -> Span
     }
 }
 
+// A field of at most 8 bits.
+fn small(frame: &[u8], at: usize, n: usize) -> u8
+    requires { ⌜ n ≤ 8 ⌝ }
+    ensures { λ r. ⌜ (r ≡ fieldAt (now (frame .entry)) at n) × (r < 2 ^ n) ⌝ }
+{
+    bits::field(frame, at, n) as u8
+}
+
+fn query_rep(frame: &[u8], n: usize) -> Heard
+    ensures { λ r. ⌜ meaning r ≡ queryRepFrame (now (frame .entry)) n ⌝ }
+{
+    plain(n, 4, Order::QueryRep(small(frame, 2, 2)))
+}
+
+fn ack(frame: &[u8], n: usize) -> Heard
+    ensures { λ r. ⌜ meaning r ≡ ackFrame (now (frame .entry)) n ⌝ }
+{
+    plain(n, 18, Order::Ack(bits::field(frame, 2, 16)))
+}
+
+fn query(frame: &[u8], n: usize) -> Heard
+    ensures { λ r. ⌜ meaning r ≡ queryFrame (now (frame .entry)) n ⌝ }
+{
+    if n != 22 {
+        return Heard::Malformed;
+    }
+    if bits::field(frame, 17, 5) != crc::crc5(frame) {
+        return Heard::Checksum;
+    }
+    let sel = small(frame, 8, 2);
+    let session = small(frame, 10, 2);
+    let target = small(frame, 12, 1);
+    let q = small(frame, 13, 4);
+    said(Order::Query(sel, target, Round { session, q }))
+}
+
+fn query_adjust(frame: &[u8], n: usize) -> Heard
+    ensures { λ r. ⌜ meaning r ≡ queryAdjustFrame (now (frame .entry)) n ⌝ }
+{
+    let session = small(frame, 4, 2);
+    let up_down = small(frame, 6, 3);
+    plain(n, 9, Order::QueryAdjust(session, up_down))
+}
+
+fn select(frame: &[u8], n: usize) -> Heard
+    requires { ⌜ n ≤ 8 * length (now frame) ⌝ }
+    ensures { λ r. ⌜ meaning r ≡ selectFrame (now (frame .entry)) n ⌝ }
+{
+    let Pointer::Whole { value, bytes } = ebv::read(frame, n, 12) else {
+        return Heard::Malformed;
+    };
+    let w = width(bytes);
+    let mask = named(frame, 10, value, w);
+    let end = 20 + w + mask.count as usize;
+    let choice = Choice {
+        target: small(frame, 4, 3),
+        action: small(frame, 7, 3),
+        bits: mask,
+        truncate: small(frame, end, 1),
+    };
+    summed(frame, n, end + 17, Order::Select(choice, 20 + w))
+}
+
 fn nak(n: usize) -> Heard
     ensures { λ r. ⌜ meaning r ≡ nakFrame n ⌝ }
 {
-    if n != 8 {
-        return Heard::Malformed;
-    }
-    Heard::Said(Command {
-        number: 0,
-        order: Order::Nak,
-    })
+    plain(n, 8, Order::Nak)
 }
 
 fn req_rn(frame: &[u8], n: usize) -> Heard
@@ -212,10 +320,15 @@ fn permalock(frame: &[u8], n: usize) -> Heard
 
 // What a frame of this code says: the code chooses the layout and the length.
 fn by_code(frame: &[u8], n: usize, code: u8) -> Heard
-    requires { ⌜ (8 ≤ n) × (n ≤ 8 * length (now frame)) × (code ≡ fieldAt (now frame) 0 8) ⌝ }
+    requires { ⌜ (4 ≤ n) × (n ≤ 8 * length (now frame)) × (code ≡ fieldAt (now frame) 0 8) ⌝ }
     ensures { λ r. ⌜ meaning r ≡ heardOf (now (frame .entry)) n ⌝ }
 {
     match code {
+        0x00..=0x3F => query_rep(frame, n),
+        0x40..=0x7F => ack(frame, n),
+        0x80..=0x8F => query(frame, n),
+        0x90..=0x9F => query_adjust(frame, n),
+        0xA0..=0xAF => select(frame, n),
         0xC0 => nak(n),
         0xC1 => req_rn(frame, n),
         0xC2 => read(frame, n),
@@ -226,7 +339,7 @@ fn by_code(frame: &[u8], n: usize, code: u8) -> Heard
         0xC7 => block_write(frame, n),
         0xC8 => block_erase(frame, n),
         0xC9 => permalock(frame, n),
-        0x00..=0xBF | 0xCA..=0xFF => Heard::Malformed,
+        0xB0..=0xBF | 0xCA..=0xFF => Heard::Malformed,
     }
 }
 
@@ -234,7 +347,7 @@ fn by_code(frame: &[u8], n: usize, code: u8) -> Heard
 pub fn hear(frame: &[u8], n: usize) -> Heard
     ensures { λ r. ⌜ meaning r ≡ heardOf (now (frame .entry)) n ⌝ }
 {
-    if n < 8 {
+    if n < 4 {
         return Heard::Malformed;
     }
     if frame.len() <= (n - 1) / 8 {

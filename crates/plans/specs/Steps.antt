@@ -1,22 +1,32 @@
 -- The plans of orders as the code makes them; Effects says what they must come to. Assumes nothing.
-use Prim.Native.Nat.{ℕ, _+_, _-_, _*_, _≤_}
+use Prim.Native.Nat.{ℕ, _+_, _-_, _*_, _≤_, _<_}
+use mathlib.Core.Bool.{cond}
 use mathlib.Core.List.{List}
+use lib.Dec.{eqb}
 use Rattle.bits.specs.Bits.{fieldAt}
 use Rattle.image.specs.declared.Layout.{Layout}
-use Rattle.image.specs.Content.{lockWord}
+use Rattle.image.specs.Content.{lockWord, lengthOf, pcWord}
 use Rattle.frames.specs.declared.Span.{Span}
+use Rattle.frames.specs.declared.Choice.{Choice}
+use Rattle.frames.specs.declared.Round.{Round}
 use Rattle.frames.specs.declared.Order.{Order}
 use Rattle.frames.specs.declared.Order.the-variants as order
+use Rattle.replies.specs.declared.Reply.{Reply}
+use Rattle.replies.specs.declared.Reply.the-variants as reply
 use Rattle.rights.specs.declared.Code.{Code}
 use Rattle.rights.specs.declared.Code.the-variants as code
 use Rattle.rights.specs.Rights.{spanWords, readCode, writeCode, lockedTo, lockCode, permaReadCode, permaCode}
+use Rattle.states.specs.declared.Flags.{Flags}
 use Rattle.states.specs.declared.Half.{Half}
 use Rattle.states.specs.declared.Half.the-variants as half
 use Rattle.states.specs.declared.State.{State}
 use Rattle.states.specs.declared.State.the-variants as state
-use Rattle.states.specs.Commands.{linkOf, isSecured, uncovered, used, numbered}
+use Rattle.states.specs.Commands.{linkOf, isSecured, uncovered, used, numbered, fallen}
+use Rattle.states.specs.Inventory.{queriedFlags, queried, leftFlags, adjusted, repeated, acknowledged, selects, selectedFlags}
 use Rattle.states.specs.Steps.{killCode, accessed, killed}
 use Rattle.plans.specs.Effects.{placeOf}
+use Rattle.plans.specs.declared.Drawn.{Drawn}
+use Rattle.plans.specs.declared.Drawn.the-variants as drawn
 use Rattle.plans.specs.declared.Plan.{Plan}
 use Rattle.plans.specs.declared.Plan.the-variants as plan
 
@@ -24,6 +34,37 @@ use Rattle.plans.specs.declared.Plan.the-variants as plan
 abbrev pub orError : Code → Plan → Plan
 orError code.Nothing p = p
 orError (code.Error e) p = plan.Error e
+
+-- the number that a tag tells when it comes to a state, and the reply that tells it
+abbrev pub drawnIn : State → Drawn
+drawnIn state.Ready = drawn.Nothing
+drawnIn (state.Arbitrate q slot) = drawn.Nothing
+drawnIn (state.Reply q n) = drawn.Number n
+drawnIn (state.Acknowledged q n) = drawn.Nothing
+drawnIn (state.Open k) = drawn.Nothing
+drawnIn (state.Secured k) = drawn.Nothing
+drawnIn state.Killed = drawn.Nothing
+
+abbrev pub drawnBy : Drawn → Reply
+drawnBy drawn.Nothing = reply.Silence
+drawnBy (drawn.Number n) = reply.Drawn n
+
+-- ACK, by whether its number is right
+abbrev pub ackPlan : Layout → List ℕ → Flags → State → ℕ → Plan
+ackPlan y m f st n =
+    cond (eqb (linkOf st .handle) n) (plan.Epc (acknowledged st) (y .epc .at + 1) (lengthOf (pcWord y m) + 1)) (plan.Turn (fallen st) f)
+
+abbrev pub queryPlan : Flags → State → ℕ → ℕ → Round → ℕ → Plan
+queryPlan f st sel t q fresh = let g = queriedFlags f st (q .session) in plan.Turn (queried g sel t q fresh) g
+
+abbrev pub adjustPlan : Flags → State → ℕ → ℕ → Plan
+adjustPlan f st u fresh = plan.Turn (adjusted st u fresh) (leftFlags f st)
+
+abbrev pub repPlan : Flags → State → ℕ → Plan
+repPlan f st fresh = plan.Turn (repeated st fresh) (leftFlags f st)
+
+abbrev pub selectPlan : Layout → List ℕ → List ℕ → Flags → Choice → ℕ → Plan
+selectPlan y m fr f c p = plan.Turn state.Ready (selectedFlags f c (selects y m fr (c .bits) p))
 
 abbrev pub reqRnPlan : Layout → List ℕ → State → ℕ → Plan
 reqRnPlan y m st fresh = plan.Number (numbered y m fresh st) fresh
@@ -67,21 +108,31 @@ readPermalockPlan y st s = orError (permaReadCode y s) (plan.Words (used st) (y 
 abbrev pub permalockPlan : Layout → List ℕ → List ℕ → State → Span → ℕ → Plan
 permalockPlan y m f st s p = orError (permaCode y m s f p) (plan.Mask (used st) (y .perma .at + s .pointer) (s .count) p)
 
-abbrev pub planOf : Layout → List ℕ → List ℕ → ℕ → State → Order → Plan
-planOf y m f fresh st order.Nak = plan.Silent state.Arbitrate
-planOf y m f fresh st order.ReqRn = reqRnPlan y m st fresh
-planOf y m f fresh st (order.Read s) = readPlan y m st s
-planOf y m f fresh st (order.Write s w) = writePlan y m st s w
-planOf y m f fresh st (order.Kill h) = killPlan y m st h
-planOf y m f fresh st (order.Lock mask action) = lockPlan y m st mask action
-planOf y m f fresh st (order.Access h) = accessPlan st h
-planOf y m f fresh st (order.BlockWrite s p) = blockWritePlan y m f st s p
-planOf y m f fresh st (order.BlockErase s) = blockErasePlan y m st s
-planOf y m f fresh st (order.ReadPermalock r s) = readPermalockPlan y st s
-planOf y m f fresh st (order.Permalock r s p) = permalockPlan y m f st s p
+abbrev pub planOf : Layout → List ℕ → List ℕ → ℕ → Flags → State → Order → Plan
+planOf y m f fresh g st (order.QueryRep k) = repPlan g st fresh
+planOf y m f fresh g st (order.Ack n) = ackPlan y m g st n
+planOf y m f fresh g st (order.Query sel t q) = queryPlan g st sel t q fresh
+planOf y m f fresh g st (order.QueryAdjust k u) = adjustPlan g st u fresh
+planOf y m f fresh g st (order.Select c p) = selectPlan y m f g c p
+planOf y m f fresh g st order.Nak = plan.Turn (fallen st) g
+planOf y m f fresh g st order.ReqRn = reqRnPlan y m st fresh
+planOf y m f fresh g st (order.Read s) = readPlan y m st s
+planOf y m f fresh g st (order.Write s w) = writePlan y m st s w
+planOf y m f fresh g st (order.Kill h) = killPlan y m st h
+planOf y m f fresh g st (order.Lock mask action) = lockPlan y m st mask action
+planOf y m f fresh g st (order.Access h) = accessPlan st h
+planOf y m f fresh g st (order.BlockWrite s p) = blockWritePlan y m f st s p
+planOf y m f fresh g st (order.BlockErase s) = blockErasePlan y m st s
+planOf y m f fresh g st (order.ReadPermalock r s) = readPermalockPlan y st s
+planOf y m f fresh g st (order.Permalock r s p) = permalockPlan y m f st s p
 
 -- the words of a frame begin in its first bytes
 abbrev pub Placed : Order → Type 0
+Placed (order.QueryRep k) = Unit {0}
+Placed (order.Ack n) = Unit {0}
+Placed (order.Query sel t q) = Unit {0}
+Placed (order.QueryAdjust k u) = Unit {0}
+Placed (order.Select c p) = (p ≤ 51) × (c .bits .count < 256)
 Placed order.Nak = Unit {0}
 Placed order.ReqRn = Unit {0}
 Placed (order.Read s) = Unit {0}

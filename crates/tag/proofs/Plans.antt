@@ -10,14 +10,13 @@ use lib.Seq.{take-all}
 use borrow.Author.Tests.{ltb-true, ltb-false, leb-false, lt-ltb, le-ltb, not-false}
 use Rattle.image.specs.declared.Layout.{Layout}
 use Rattle.image.specs.Layout.{end, blocksIn, pairsIn}
-use Rattle.image.specs.Content.{lockWord}
+use Rattle.image.specs.Content.{lockWord, lengthOf, pcWord}
 use Rattle.image.specs.Rules.{Header, Good}
 use Rattle.frames.specs.declared.Span.{Span}
 use Rattle.frames.specs.declared.Order.{Order}
 use Rattle.frames.specs.declared.Order.the-variants as order
 use Rattle.replies.specs.declared.Reply.{Reply}
 use Rattle.replies.specs.declared.Reply.the-variants as reply
-use Rattle.replies.proofs.Laws.{packed-none}
 use Rattle.stores.specs.Stores.{changeStores}
 use Rattle.stores.specs.Steps.{Made}
 use Rattle.bits.specs.Words.{Store}
@@ -32,20 +31,24 @@ use Rattle.rights.specs.Rights.{bankOf, beyond, mayWrite, badPc, spanWords, rea
 use Rattle.changes.specs.Changes.{Holds}
 use Rattle.states.specs.declared.Half.{Half}
 use Rattle.states.specs.declared.Half.the-variants as half
+use Rattle.states.specs.declared.Flags.{Flags}
 use Rattle.states.specs.declared.State.{State}
+use Rattle.states.specs.declared.State.the-variants as state
 use Rattle.plans.specs.declared.Plan.{Plan}
 use Rattle.plans.specs.declared.Plan.the-variants as plan
-use Rattle.plans.specs.Effects.{Effect, halfKill, halfAccess, placeOf}
+use Rattle.plans.specs.Effects.{Effect, turns, halfKill, halfAccess, placeOf}
 use Rattle.plans.specs.Steps.{Placed, orError, killBy, planOf}
 use Rattle.tag.specs.declared.Answer.the-variants as answer
 use Rattle.tag.specs.declared.Live.{Live}
+use Rattle.tag.specs.declared.Session.{Session}
+use Rattle.tag.specs.Table.{turnedTo, movedTo}
 use Rattle.frames.specs.declared.Command.{Command}
 use Rattle.tag.specs.Result.{Result, result}
-use Rattle.states.specs.Commands.{asksOf, linkOf, isSecured, uncovered, wrongBy, breaks}
+use Rattle.states.specs.Commands.{asksOf, linkOf, isSecured, uncovered, wrongBy, breaks, fallen}
+use Rattle.states.specs.Inventory.{queriedFlags, queried, leftFlags, adjusted, repeated, acknowledged, selects, selectedFlags}
 use Rattle.states.specs.Steps.{killCode, accessed, wrongCommand}
-use Rattle.states.specs.declared.Who.the-variants as who
-use Rattle.states.proofs.Gates.{passes-handle, not-admitted, not-linked, not-secured}
-use Rattle.tag.specs.Steps.{kept, tellEnd, storeEnd, doneEnd, endBy, sceneOf, droppedWith, movedWith, orderOf, commandOf, Sound, performOf}
+use Rattle.states.proofs.Gates.{Named, passes-handle}
+use Rattle.tag.specs.Steps.{kept, tellEnd, storeEnd, doneEnd, endBy, sceneOf, droppedWith, orderOf, commandOf, Sound, performOf}
 
 -- a row that does not hold, and those after it
 none-row : (b : Bool) (e : Fault) (rest : Code) → cond b (code.Error e) rest ≡ code.Nothing → (b ≡ false) × (rest ≡ code.Nothing)
@@ -168,32 +171,25 @@ pub good-long : (y : Layout) (m : List ℕ) → Good y m → 32 ≤ length m
 good-long y m g = let h = g .header in omega arith
 
 -- without a store neither WORK nor the power counts
-pub tell-any : (l : Live) (w : ℕ) (m room : List ℕ) (s : ℕ) (r : Reply) (st : State) → tellEnd l m room r st ≡ doneEnd l w m room s r st []
+pub tell-any : (l : Live) (w : ℕ) (m room : List ℕ) (s : ℕ) (r : Reply) (v : Session) → tellEnd l m room r v ≡ doneEnd l w m room s r v []
 unfolding doneEnd
-tell-any l w m room s r st = let e : ltb s 0 ≡ false = le-ltb s 0 (omega arith) in rw e
-
-pub silence-any : (l : Live) (w : ℕ) (m room : List ℕ) (s : ℕ) (st : State) → result (movedWith l st) m room ≡ doneEnd l w m room s reply.Silence st []
-unfolding doneEnd
-silence-any l w m room s st =
-    let a : ltb (length room) 0 ≡ false = le-ltb (length room) 0 (omega arith) in
-    let b : ltb s 0 ≡ false = le-ltb s 0 (omega arith) in
-    rw (a, b, packed-none)
+tell-any l w m room s r v = let e : ltb s 0 ≡ false = le-ltb s 0 (omega arith) in rw e
 
 -- a change's stores, and what they leave to say
 module _ (l : Live) (h w : ℕ) (m room : List ℕ) (s : ℕ) (st : State) (ss : List Store) where
-  pub store-small : length room < 5 → kept 4 l m room ≡ doneEnd l w m room s (reply.Success h) st ss
+  pub store-small : length room < 5 → kept 4 l m room ≡ doneEnd l w m room s (reply.Success h) (movedTo l st) ss
   unfolding doneEnd
   store-small q = simp (lt-ltb _ _ q)
 
   module _ {n : List ℕ} {k need : ℕ} (b : 5 ≤ length room) (e : need ≡ length (changeStores w ss)) (p : Made (changeStores w ss) s m n k) where
-    store-cut : ltb s (length (changeStores w ss)) ≡ true → storeEnd l h st n room k need s ≡ doneEnd l w m room s (reply.Success h) st ss
+    store-cut : ltb s (length (changeStores w ss)) ≡ true → storeEnd l h st n room k need s ≡ doneEnd l w m room s (reply.Success h) (movedTo l st) ss
     unfolding storeEnd doneEnd
     store-cut q =
         let c : k ≡ s = omega (arith, p .made, ltb-true s (length (changeStores w ss)) q) in
         let small : ltb (length room) 5 ≡ false = le-ltb (length room) 5 b in
         rw (e, c, p .image) (simp (small, q))
 
-    store-whole : ltb s (length (changeStores w ss)) ≡ false → storeEnd l h st n room k need s ≡ doneEnd l w m room s (reply.Success h) st ss
+    store-whole : ltb s (length (changeStores w ss)) ≡ false → storeEnd l h st n room k need s ≡ doneEnd l w m room s (reply.Success h) (movedTo l st) ss
     unfolding storeEnd doneEnd
     store-whole q =
         let c : k ≡ length (changeStores w ss) = omega (arith, p .made, ltb-false s (length (changeStores w ss)) q) in
@@ -201,10 +197,10 @@ module _ (l : Live) (h w : ℕ) (m room : List ℕ) (s : ℕ) (st : State) (ss :
         let small : ltb (length room) 5 ≡ false = le-ltb (length room) 5 b in
         rw (e, c, p .image, d) (simp (small, q))
 
-    pub store-end : storeEnd l h st n room k need s ≡ doneEnd l w m room s (reply.Success h) st ss
+    pub store-end : storeEnd l h st n room k need s ≡ doneEnd l w m room s (reply.Success h) (movedTo l st) ss
     store-end = go (ltb s (length (changeStores w ss))) refl
       where
-        go : (t : Bool) → ltb s (length (changeStores w ss)) ≡ t → storeEnd l h st n room k need s ≡ doneEnd l w m room s (reply.Success h) st ss
+        go : (t : Bool) → ltb s (length (changeStores w ss)) ≡ t → storeEnd l h st n room k need s ≡ doneEnd l w m room s (reply.Success h) (movedTo l st) ss
         go true q = store-cut q
         go false q = store-whole q
 
@@ -214,13 +210,31 @@ module _ (w n : ℕ) where
   code-sound code.Nothing p h = h refl
   code-sound (code.Error e) p h = tt
 
-module _ (y : Layout) (m f : List ℕ) (st : State) (g : Header y m) where
+module _ (y : Layout) (m f : List ℕ) (flags : Flags) (st : State) (good : Good y m) where
+  g : Header y m
+  g = good .header
+
+  -- PC and EPC lie in their bank
+  epc-fits : (2 * (y .epc .at + 1 + (lengthOf (pcWord y m) + 1)) ≤ length m) × (lengthOf (pcWord y m) + 1 < 65536)
+  epc-fits =
+      let p = good .content 0 .pc in
+      (omega (arith, p, bank-end y m g 1, g .whole), omega (arith, p, bank-end y m g 1, work-small y m g))
+
+  ack-sound : (n : ℕ) (b : Bool) → Sound (y .work .at) (length m) (cond b (plan.Epc (acknowledged st) (y .epc .at + 1) (lengthOf (pcWord y m) + 1)) (plan.Turn (fallen st) flags))
+  ack-sound n true = epc-fits
+  ack-sound n false = tt
+
   kill-sound : (h : ℕ) (half : Half) → Sound (y .work .at) (length m) (killBy y st h half)
   kill-sound h half.Nothing = tt
   kill-sound h (half.Access up) = tt
   kill-sound h (half.Kill up) = killed-held y m g
 
-  pub plan-sound : (fresh : ℕ) (o : Order) → Placed o → Sound (y .work .at) (length m) (planOf y m f fresh st o)
+  pub plan-sound : (fresh : ℕ) (o : Order) → Placed o → Sound (y .work .at) (length m) (planOf y m f fresh flags st o)
+  plan-sound fresh (order.QueryRep k) q = tt
+  plan-sound fresh (order.Ack n) q = ack-sound n (eqb (linkOf st .handle) n)
+  plan-sound fresh (order.Query sel t r) q = tt
+  plan-sound fresh (order.QueryAdjust k u) q = tt
+  plan-sound fresh (order.Select c p) q = tt
   plan-sound fresh order.Nak q = tt
   plan-sound fresh order.ReqRn q = tt
   plan-sound fresh (order.Read s) q = code-sound _ _ (readCode y m (isSecured st) s) _ (read-fits y m g m (isSecured st) s)
@@ -245,7 +259,7 @@ module _ (l : Live) (y : Layout) (m f : List ℕ) (fresh : ℕ) (room : List ℕ
   ends : Code → Effect → Result
   ends c x = endBy c l (y .work .at) m room s x
 
-  code-performs : (c : Code) (p : Plan) (x : Effect) → perform p ≡ doneEnd l (y .work .at) m room s (x .reply) (x .state) (x .words) → perform (orError c p) ≡ ends c x
+  code-performs : (c : Code) (p : Plan) (x : Effect) → perform p ≡ doneEnd l (y .work .at) m room s (x .reply) (turnedTo l (x .flags) (x .state)) (x .words) → perform (orError c p) ≡ ends c x
   unfolding handle perform ends
   code-performs code.Nothing p x h = h
   code-performs (code.Error e) p x h = refl
@@ -262,9 +276,30 @@ module _ (l : Live) (y : Layout) (m f : List ℕ) (fresh : ℕ) (room : List ℕ
   access-performs h (half.Access up) = refl
   access-performs h (half.Kill up) = refl
 
-  pub plan-performs : (o : Order) → performOf l (linkOf (l .state) .handle) y m f room s (planOf y m f fresh (l .state) o) ≡ orderOf l y m f fresh room s o
+  -- a tag that comes to another state, with its number told in Reply
+  turn-performs : (st : State) (g : Flags) → perform (plan.Turn st g) ≡ (let x = turns g st in ends (x .code) x)
   unfolding handle perform ends
-  plan-performs order.Nak = refl
+  turn-performs state.Ready g = refl
+  turn-performs (state.Arbitrate q slot) g = refl
+  turn-performs (state.Reply q n) g = refl
+  turn-performs (state.Acknowledged q n) g = refl
+  turn-performs (state.Open k) g = refl
+  turn-performs (state.Secured k) g = refl
+  turn-performs state.Killed g = refl
+
+  ack-performs : (b : Bool) (p q : Plan) (x z : Effect) → perform p ≡ ends (x .code) x → perform q ≡ ends (z .code) z
+      → perform (cond b p q) ≡ (let e = cond b x z in ends (e .code) e)
+  ack-performs true p q x z a b = a
+  ack-performs false p q x z a b = b
+
+  pub plan-performs : (o : Order) → performOf l (linkOf (l .state) .handle) y m f room s (planOf y m f fresh (l .flags) (l .state) o) ≡ orderOf l y m f fresh room s o
+  unfolding handle perform ends
+  plan-performs (order.QueryRep k) = turn-performs (repeated (l .state) fresh) (leftFlags (l .flags) (l .state))
+  plan-performs (order.Ack n) = ack-performs (eqb (linkOf (l .state) .handle) n) _ _ _ _ refl (turn-performs (fallen (l .state)) (l .flags))
+  plan-performs (order.Query sel t r) = let g = queriedFlags (l .flags) (l .state) (r .session) in turn-performs (queried g sel t r fresh) g
+  plan-performs (order.QueryAdjust k u) = turn-performs (adjusted (l .state) u fresh) (leftFlags (l .flags) (l .state))
+  plan-performs (order.Select c p) = turn-performs state.Ready (selectedFlags (l .flags) c (selects y m f (c .bits) p))
+  plan-performs order.Nak = turn-performs (fallen (l .state)) (l .flags)
   plan-performs order.ReqRn = refl
   plan-performs (order.Read p) = code-performs (readCode y m (isSecured (l .state)) p) _ _ refl
   plan-performs (order.Write p w) = code-performs (writeCode y m (isSecured (l .state)) p (uncovered (linkOf (l .state) .cover) w)) _ _ refl
@@ -276,25 +311,35 @@ module _ (l : Live) (y : Layout) (m f : List ℕ) (fresh : ℕ) (room : List ℕ
   plan-performs (order.ReadPermalock r p) = code-performs (permaReadCode y p) _ _ refl
   plan-performs (order.Permalock r p b) = code-performs (permaCode y m p f b) _ _ refl
 
-  handled : (n : ℕ) (o : Order) → wrongBy (l .state) n (asksOf o) ≡ false → (asksOf o .who ≡ who.Everyone → ⊥)
-      → performOf l n y m f room s (planOf y m f fresh (l .state) o) ≡ orderOf l y m f fresh room s o
+  handled : (n : ℕ) (o : Order) → wrongBy (l .state) n (asksOf o) ≡ false → Named (asksOf o .who)
+      → performOf l n y m f room s (planOf y m f fresh (l .flags) (l .state) o) ≡ orderOf l y m f fresh room s o
   handled n o w h =
-      ap (λ (k : ℕ). performOf l k y m f room s (planOf y m f fresh (l .state) o)) (passes-handle (l .state) (asksOf o) n w h) ∙ plan-performs o
+      ap (λ (k : ℕ). performOf l k y m f room s (planOf y m f fresh (l .flags) (l .state) o)) (passes-handle (l .state) (asksOf o) n w h) ∙ plan-performs o
 
-  -- NAK's plan needs no handle; every other order that passes carries it
+  any-handle : (n : ℕ) (b : Bool) (st : State) (g : Flags) (a k : ℕ) → performOf l n y m f room s (cond b (plan.Epc st a k) (plan.Turn (fallen (l .state)) g))
+      ≡ performOf l handle y m f room s (cond b (plan.Epc st a k) (plan.Turn (fallen (l .state)) g))
+  any-handle n true st g a k = refl
+  any-handle n false st g a k = refl
+
+  -- the plans of orders to every tag need no handle; every other order that passes carries it
   pub handle-performs : (n : ℕ) (o : Order) → wrongBy (l .state) n (asksOf o) ≡ false
-      → performOf l n y m f room s (planOf y m f fresh (l .state) o) ≡ orderOf l y m f fresh room s o
-  handle-performs n order.Nak w = refl
-  handle-performs n order.ReqRn w = handled n order.ReqRn w not-admitted
-  handle-performs n (order.Read p) w = handled n (order.Read p) w not-linked
-  handle-performs n (order.Write p v) w = handled n (order.Write p v) w not-linked
-  handle-performs n (order.Kill h) w = handled n (order.Kill h) w not-linked
-  handle-performs n (order.Lock mask action) w = handled n (order.Lock mask action) w not-secured
-  handle-performs n (order.Access h) w = handled n (order.Access h) w not-linked
-  handle-performs n (order.BlockWrite p b) w = handled n (order.BlockWrite p b) w not-linked
-  handle-performs n (order.BlockErase p) w = handled n (order.BlockErase p) w not-linked
-  handle-performs n (order.ReadPermalock r p) w = handled n (order.ReadPermalock r p) w not-secured
-  handle-performs n (order.Permalock r p b) w = handled n (order.Permalock r p b) w not-secured
+      → performOf l n y m f room s (planOf y m f fresh (l .flags) (l .state) o) ≡ orderOf l y m f fresh room s o
+  handle-performs n (order.QueryRep k) w = plan-performs (order.QueryRep k)
+  handle-performs n (order.Ack k) w = any-handle n (eqb (linkOf (l .state) .handle) k) _ (l .flags) _ _ ∙ plan-performs (order.Ack k)
+  handle-performs n (order.Query sel t r) w = plan-performs (order.Query sel t r)
+  handle-performs n (order.QueryAdjust k u) w = plan-performs (order.QueryAdjust k u)
+  handle-performs n (order.Select c p) w = plan-performs (order.Select c p)
+  handle-performs n order.Nak w = plan-performs order.Nak
+  handle-performs n order.ReqRn w = handled n order.ReqRn w tt
+  handle-performs n (order.Read p) w = handled n (order.Read p) w tt
+  handle-performs n (order.Write p v) w = handled n (order.Write p v) w tt
+  handle-performs n (order.Kill h) w = handled n (order.Kill h) w tt
+  handle-performs n (order.Lock mask action) w = handled n (order.Lock mask action) w tt
+  handle-performs n (order.Access h) w = handled n (order.Access h) w tt
+  handle-performs n (order.BlockWrite p b) w = handled n (order.BlockWrite p b) w tt
+  handle-performs n (order.BlockErase p) w = handled n (order.BlockErase p) w tt
+  handle-performs n (order.ReadPermalock r p) w = handled n (order.ReadPermalock r p) w tt
+  handle-performs n (order.Permalock r p b) w = handled n (order.Permalock r p b) w tt
 
 -- a command's three ways: wrong, broken, or by its order
 module _ (l : Live) (y : Layout) (m f : List ℕ) (fresh : ℕ) (room : List ℕ) (s : ℕ) (c : Command) where

@@ -21,18 +21,18 @@ use Rattle.tag.specs.Table.{liveOf, firstRows, answered, portRows}
 
 -- a session with another register
 abbrev pub registerTo : Live → Register → Session
-registerTo l r = on (l .state) (l .held) r
+registerTo l r = on (l .flags) (l .state) (l .held) r
 
 -- 4.1: asking is granted unless the state is Open or Secured or the port is held
 unfoldable pub askOf : Session → Answers
 askOf s =
     let l = liveOf (s .power) in
-    record { rows = portRows s (l .held || isLinked (l .state)); done = answered 0 (on (l .state) true (l .register)) }
+    record { rows = portRows s (l .held || isLinked (l .state)); done = answered 0 (on (l .flags) (l .state) true (l .register)) }
 
 -- 4.7: releasing and reading the register need the port held
 unfoldable pub releaseOf : Session → Answers
 releaseOf s =
-    let l = liveOf (s .power) in record { rows = portRows s (not (l .held)); done = answered 0 (on (l .state) false (l .register)) }
+    let l = liveOf (s .power) in record { rows = portRows s (not (l .held)); done = answered 0 (on (l .flags) (l .state) false (l .register)) }
 
 -- 4.5: bit 1, some word wasn't written; bit 0, killed
 abbrev pub bitOf : Bool → ℕ

@@ -24,7 +24,7 @@ use Rattle.tag.specs.Port.{bitOf, registerTo, withKilled, withUnwritten,
 
 -- a session with its port held or free
 abbrev pub heldTo : Live → Bool → Session
-heldTo l b = on (l .state) b (l .register)
+heldTo l b = on (l .flags) (l .state) b (l .register)
 
 -- the register after a write
 abbrev pub wroteTo : Layout → List ℕ → Live → ℕ → ℕ → Register

@@ -10,16 +10,17 @@ use Rattle.image.specs.Content.{killedWord}
 use Rattle.image.specs.Check.{imageRows}
 use Rattle.stores.specs.Stores.{powerStores}
 use Rattle.states.specs.declared.State.the-variants as state
-use Rattle.tag.specs.Session.{offSession, on, clear}
+use Rattle.tag.specs.Session.{offSession, on, newFlags, clear}
 use Rattle.tag.specs.Result.{leaves, storing, lost, Answers}
 
--- where no row holds every store is made; 2.7: the session is new, Killed if the image says so, else Arbitrate, port free, register 0
+-- where no row holds every store is made; 2.7: the session is new, Killed if the image says so, else Ready, with new flags, port free, register
+-- 0
 unfoldable pub powerUpOf : List ℕ → ℕ → Answers
 powerUpOf m s =
     let y = layoutOf m in
     let stores = powerStores y m in
-    let first = cond (eqb (killedWord y (after m stores)) 0) state.Arbitrate state.Killed in
+    let first = cond (eqb (killedWord y (after m stores)) 0) state.Ready state.Killed in
     record {
       rows = imageRows (λ n. leaves n offSession m []) m ++ ((lost m stores s [], ltb s (length stores)) ∷ []);
-      done = storing stores (leaves 0 (on first false clear) m []);
+      done = storing stores (leaves 0 (on newFlags first false clear) m []);
     }

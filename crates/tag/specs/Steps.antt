@@ -36,10 +36,11 @@ use Rattle.tag.specs.declared.Answer.the-variants as answer
 use Rattle.tag.specs.declared.Outcome.{Outcome}
 use Rattle.tag.specs.Session.{offSession, newSession}
 use Rattle.tag.specs.Result.{Result, leaves, lost, result}
-use Rattle.states.specs.Commands.{asksOf, linkOf, breaks, used}
+use Rattle.states.specs.Commands.{asksOf, linkOf, breaks, used, fallen}
 use Rattle.states.specs.Steps.{wrongCommand}
 use Rattle.plans.specs.Effects.{Scene, Effect, effectOf}
-use Rattle.tag.specs.Table.{Input, fits, movedTo}
+use Rattle.plans.specs.Steps.{drawnIn, drawnBy}
+use Rattle.tag.specs.Table.{Input, fits, turnedTo, movedTo}
 
 -- an answer with its reply's length and the stores made
 abbrev pub gives : ℕ → Session → ℕ → ℕ → List ℕ → List ℕ → Result
@@ -68,7 +69,7 @@ frontRow h m = cond (eqb (readyRow m) 0) h (readyRow m)
 
 -- the first state of an image
 abbrev pub firstIn : Layout → List ℕ → State
-firstIn y m = cond (eqb (killedWord y m) 0) state.Arbitrate state.Killed
+firstIn y m = cond (eqb (killedWord y m) 0) state.Ready state.Killed
 
 -- an Off session, after so many stores
 abbrev pub stoppedAt : Answer → ℕ → Outcome
@@ -98,17 +99,17 @@ errorEnd l h m room e =
     let r = reply.Error e h in
     cond (fits r room) (gives 10 (movedTo l (used (l .state))) (replyLength r) 0 m (packed (replyBits m r) room)) (kept 4 l m room)
 
--- no room for the reply, too little power, or done; WORK is at word w
-unfoldable pub doneEnd : Live → ℕ → List ℕ → List ℕ → ℕ → Reply → State → List Store → Result
-doneEnd l w m room s r st ss =
+-- no room for the reply, too little power, or done with the session v; WORK is at word w
+unfoldable pub doneEnd : Live → ℕ → List ℕ → List ℕ → ℕ → Reply → Session → List Store → Result
+doneEnd l w m room s r v ss =
     let stores = changeStores w ss in
     cond (not (fits r room)) (kept 4 l m room)
     (cond (ltb s (length stores)) (lost m stores s room)
-    (gives 0 (movedTo l st) (replyLength r) (length stores) (after m stores) (packed (replyBits m r) room)))
+    (gives 0 v (replyLength r) (length stores) (after m stores) (packed (replyBits m r) room)))
 
 -- a reply without a store: no room for it, or done
-abbrev pub tellEnd : Live → List ℕ → List ℕ → Reply → State → Result
-tellEnd l m room r st = doneEnd l 0 m room 0 r st []
+abbrev pub tellEnd : Live → List ℕ → List ℕ → Reply → Session → Result
+tellEnd l m room r v = doneEnd l 0 m room 0 r v []
 
 -- after so many of the stores that were needed: too little power, or done
 unfoldable pub storeEnd : Live → ℕ → State → List ℕ → List ℕ → ℕ → ℕ → ℕ → Result
@@ -124,7 +125,8 @@ neededFor c = cond (eqb c 0) 0 (3 * c + 2)
 -- a plan that an image of n bytes with WORK at word w can take
 abbrev pub Sound : ℕ → ℕ → Plan → Type 0
 Sound w n (plan.Error e) = Unit {0}
-Sound w n (plan.Silent st) = Unit {0}
+Sound w n (plan.Turn st f) = Unit {0}
+Sound w n (plan.Epc st at k) = (2 * (at + k) ≤ n) × (k < 65536)
 Sound w n (plan.Number st k) = Unit {0}
 Sound w n (plan.Words st at k) = (2 * (at + k) ≤ n) × (k < 65536)
 Sound w n (plan.Word st v at) = Holds w at 1 n
@@ -134,13 +136,14 @@ Sound w n (plan.Mask st at k p) = Holds w at k n × (p ≤ 51) × (k ≤ 16)
 
 -- what a plan comes to, with this handle
 abbrev pub storedEnd : Live → ℕ → ℕ → List ℕ → List ℕ → ℕ → State → List Store → Result
-storedEnd l h w m room s st ss = doneEnd l w m room s (reply.Success h) st ss
+storedEnd l h w m room s st ss = doneEnd l w m room s (reply.Success h) (movedTo l st) ss
 
 abbrev pub performOf : Live → ℕ → Layout → List ℕ → List ℕ → List ℕ → ℕ → Plan → Result
 performOf l h y m f room s (plan.Error e) = errorEnd l h m room (faultNumber e)
-performOf l h y m f room s (plan.Silent st) = doneEnd l (y .work .at) m room s reply.Silence st []
-performOf l h y m f room s (plan.Number st n) = doneEnd l (y .work .at) m room s (reply.Number n) st []
-performOf l h y m f room s (plan.Words st at k) = doneEnd l (y .work .at) m room s (reply.Words at k h) st []
+performOf l h y m f room s (plan.Turn st g) = doneEnd l (y .work .at) m room s (drawnBy (drawnIn st)) (turnedTo l g st) []
+performOf l h y m f room s (plan.Epc st at k) = doneEnd l (y .work .at) m room s (reply.Epc at k) (movedTo l st) []
+performOf l h y m f room s (plan.Number st n) = doneEnd l (y .work .at) m room s (reply.Number n) (movedTo l st) []
+performOf l h y m f room s (plan.Words st at k) = doneEnd l (y .work .at) m room s (reply.Words at k h) (movedTo l st) []
 performOf l h y m f room s (plan.Word st v at) = storedEnd l h (y .work .at) m room s st (store at v ∷ [])
 performOf l h y m f room s (plan.Bits st at n p) = storedEnd l h (y .work .at) m room s st (below (wordFrom at f p) n)
 performOf l h y m f room s (plan.Zeros st at n) = storedEnd l h (y .work .at) m room s st (below (λ j. store (at + j) 0) n)
@@ -148,17 +151,17 @@ performOf l h y m f room s (plan.Mask st at n p) = storedEnd l h (y .work .at) m
 
 -- an order that no refusal stops, by its error code
 abbrev pub endBy : Code → Live → ℕ → List ℕ → List ℕ → ℕ → Effect → Result
-endBy code.Nothing l w m room s x = doneEnd l w m room s (x .reply) (x .state) (x .words)
+endBy code.Nothing l w m room s x = doneEnd l w m room s (x .reply) (turnedTo l (x .flags) (x .state)) (x .words)
 endBy (code.Error e) l w m room s x = errorEnd l (linkOf (l .state) .handle) m room (faultNumber e)
 
 abbrev pub sceneOf : Live → Layout → List ℕ → List ℕ → ℕ → Scene
-sceneOf l y m f fresh = record { layout = y; image = m; state = l .state; frame = f; fresh = fresh }
+sceneOf l y m f fresh = record { layout = y; image = m; flags = l .flags; state = l .state; frame = f; fresh = fresh }
 
 abbrev pub orderOf : Live → Layout → List ℕ → List ℕ → ℕ → List ℕ → ℕ → Order → Result
 orderOf l y m f fresh room s o = let x = effectOf (sceneOf l y m f fresh) o in endBy (x .code) l (y .work .at) m room s x
 
 abbrev pub droppedWith : Live → Answer → Outcome
-droppedWith l a = record { answer = a; session = movedTo l state.Arbitrate; reply = 0; stores = 0; value = 0 }
+droppedWith l a = record { answer = a; session = movedTo l (fallen (l .state)); reply = 0; stores = 0; value = 0 }
 
 -- a command whose frame is whole
 unfoldable pub commandOf : Live → Layout → List ℕ → List ℕ → ℕ → List ℕ → ℕ → Command → Result
@@ -175,10 +178,6 @@ doneWith v reply stores value = record { answer = answer.Done; session = v; repl
 -- a session as it was, with an answer
 abbrev pub keptWith : Session → Answer → Outcome
 keptWith s a = record { answer = a; session = s; reply = 0; stores = 0; value = 0 }
-
--- done without a reply, in another state
-abbrev pub movedWith : Live → State → Outcome
-movedWith l st = record { answer = answer.Done; session = movedTo l st; reply = 0; stores = 0; value = 0 }
 
 -- what was heard, of a session that the front lets pass
 abbrev pub heardBy : Live → Layout → List ℕ → List ℕ → ℕ → List ℕ → ℕ → Message → Result

@@ -20,15 +20,16 @@ use Rattle.replies.specs.Replies.{replyBits, replyLength}
 use Rattle.rights.specs.declared.Code.{Code}
 use Rattle.rights.specs.declared.Code.the-variants as code
 use Rattle.rights.specs.Rights.{faultNumber}
+use Rattle.states.specs.declared.Flags.{Flags}
 use Rattle.states.specs.declared.State.{State}
 use Rattle.states.specs.declared.State.the-variants as state
 use Rattle.tag.specs.declared.Live.{Live}
 use Rattle.tag.specs.declared.Power.{Power}
 use Rattle.tag.specs.declared.Power.the-variants as power
 use Rattle.tag.specs.declared.Session.{Session}
-use Rattle.tag.specs.Session.{on, clear}
+use Rattle.tag.specs.Session.{on, newFlags, clear}
 use Rattle.tag.specs.Result.{Result, leaves, replying, storing, lost, Answers}
-use Rattle.states.specs.Commands.{asksOf, linkOf, isArbitrate, wrongBy, breaks, used}
+use Rattle.states.specs.Commands.{asksOf, linkOf, wrongBy, breaks, used, fallen}
 use Rattle.plans.specs.Effects.{Scene, Effect, effectOf}
 
 -- what a frame call is handed
@@ -48,9 +49,9 @@ abbrev pub isOff : Power → Bool
 isOff power.Off = true
 isOff (power.On l) = false
 
--- of an Off session nothing is asked past answer 5: a free one in Arbitrate stands in
+-- of an Off session nothing is asked past answer 5: a new one in Ready stands in
 abbrev pub liveOf : Power → Live
-liveOf power.Off = record { state = state.Arbitrate; held = false; register = clear }
+liveOf power.Off = record { flags = newFlags; state = state.Ready; held = false; register = clear }
 liveOf (power.On l) = l
 
 abbrev pub live : Input → Live
@@ -77,7 +78,7 @@ broken i = let k = linkOf (stateOf i) in breaks (layout i) (i .image) k (k .half
 
 -- what the command comes to
 abbrev pub scene : Input → Scene
-scene i = record { layout = layout i; image = i .image; state = stateOf i; frame = i .frame; fresh = i .fresh }
+scene i = record { layout = layout i; image = i .image; flags = live i .flags; state = stateOf i; frame = i .frame; fresh = i .fresh }
 
 abbrev pub effect : Input → Effect
 effect i = effectOf (scene i) (command i .order)
@@ -97,20 +98,23 @@ replyOf i = replyOr (effect i .code) (linkOf (stateOf i) .handle) (effect i .rep
 abbrev pub fits : Reply → List ℕ → Bool
 fits r room = not (ltb (length room) ((replyLength r + 7) / 8))
 
--- the session in another state; port and register stay
-abbrev pub movedTo : Live → State → Session
-movedTo l st = on st (l .held) (l .register)
+-- the session with other flags and in another state, or in another state alone; port and register stay
+abbrev pub turnedTo : Live → Flags → State → Session
+turnedTo l f st = on f st (l .held) (l .register)
 
--- what answers leave: everything; Arbitrate; a reply with its state and stores
+abbrev pub movedTo : Live → State → Session
+movedTo l st = turnedTo l (l .flags) st
+
+-- what answers leave: everything; Arbitrate; a reply with a session and stores
 abbrev pub everything : Input → ℕ → Result
 everything i n = leaves n (i .session) (i .image) (i .room)
 
 abbrev pub dropped : Input → ℕ → Result
-dropped i n = leaves n (movedTo (live i) state.Arbitrate) (i .image) (i .room)
+dropped i n = leaves n (movedTo (live i) (fallen (stateOf i))) (i .image) (i .room)
 
-abbrev pub replied : Input → ℕ → State → List Store → Result
-replied i n st ss =
-    let r = leaves n (movedTo (live i) st) (i .image) (i .room) in
+abbrev pub replied : Input → ℕ → Session → List Store → Result
+replied i n v ss =
+    let r = leaves n v (i .image) (i .room) in
     storing ss (replying (replyLength (replyOf i)) (replyBits (i .image) (replyOf i)) r)
 
 -- 1, 2, 3, 5 and 6, for every call with an image; `port` is when the port forbids it
@@ -136,25 +140,16 @@ module _ (change : ℕ → List Store → List Store) where
             ∷ (everything i 8, refusedBy 8 (heardOf (i .frame) (i .bits)))
             ∷ (everything i 9, wrongBy (stateOf i) (command i .number) (asksOf (command i .order)))
             ∷ (dropped i 12, broken i)
-            ∷ (replied i 10 (used (stateOf i)) [], isError (effect i .code) && fits (replyOf i) (i .room))
+            ∷ (replied i 10 (movedTo (live i) (used (stateOf i))) [], isError (effect i .code) && fits (replyOf i) (i .room))
             ∷ (everything i 4, not (fits (replyOf i) (i .room)))
             ∷ (lost (i .image) (storesOf i) (i .power) (i .room), ltb (i .power) (length (storesOf i)))
             ∷ [];
-        done = replied i 0 (effect i .state) (storesOf i);
+        done = replied i 0 (turnedTo (live i) (effect i .flags) (effect i .state)) (storesOf i);
       }
 
--- 3.2: an admission takes Arbitrate to Acknowledged; it has neither image nor room, so its order starts at 5
+-- the answers of calls without an image, which start at 5: Off, then what the port forbids
 abbrev pub answered : ℕ → Session → Result
 answered n session = leaves n session [] []
 
--- the answers of calls without an image: Off, then what the port forbids
 abbrev pub portRows : Session → Bool → List (Result × Bool)
 portRows s port = (answered 5 s, isOff (s .power)) ∷ (answered 6 s, port) ∷ []
-
-unfoldable pub admitOf : Session → ℕ → Answers
-admitOf s n =
-    let l = liveOf (s .power) in
-    record {
-      rows = portRows s (l .held) ++ ((answered 9 s, not (isArbitrate (l .state))) ∷ []);
-      done = answered 0 (movedTo l (state.Acknowledged n));
-    }

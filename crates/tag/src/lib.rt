@@ -11,7 +11,9 @@ mod starting;
 
 pub use port::read_words;
 pub use starting::power_up;
+pub use frames::Round;
 pub use states::Cover;
+pub use states::Flags;
 pub use states::Half;
 pub use states::Link;
 pub use states::State;
@@ -26,6 +28,7 @@ pub struct Register {
 pub struct Live {
     pub held: bool,
     pub register: Register,
+    pub flags: Flags,
     pub state: State,
 }
 

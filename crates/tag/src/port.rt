@@ -31,11 +31,13 @@ fn with_held(l: Live, held: bool) -> Session
 {
     let state = l.state;
     let register = l.register;
+    let flags = l.flags;
     Session {
         power: Power::On(Live {
             state: state,
             held: held,
             register: register,
+            flags: flags,
         }),
     }
 }
@@ -45,11 +47,13 @@ fn with_register(l: Live, register: Register) -> Session
     ensures { λ r. ⌜ r ≡ registerTo l register ⌝ }
 {
     let state = l.state;
+    let flags = l.flags;
     Session {
         power: Power::On(Live {
             state: state,
             held: l.held,
             register: register,
+            flags: flags,
         }),
     }
 }

@@ -1,12 +1,11 @@
-// The radio side: admission and frames (RULES 3 and 5).
+// The radio side: frames (RULES 3, 5 and 11).
 ghost use mathlib.Core.Path.{_≡_};
-ghost use mathlib.Core.List.{[]};
 ghost use Rattle.image.specs.Layout.{layoutOf};
 ghost use Rattle.image.specs.Rules.{Good};
 ghost use Rattle.stores.specs.Stores.{changeStores};
-ghost use Rattle.tag.specs.Table.{frameOf, admitOf};
+ghost use Rattle.tag.specs.Table.{frameOf};
 ghost use Rattle.tag.specs.Result.{firstOf, result};
-ghost use Rattle.tag.specs.Steps.{movedWith, heardBy};
+ghost use Rattle.tag.specs.Steps.{heardBy};
 ghost use Rattle.frames.specs.Frames.{heardOf};
 use crate::Answer;
 use crate::Live;
@@ -17,14 +16,6 @@ use crate::acting;
 use crate::answering;
 use crate::front;
 use frames::Heard;
-use states::State;
-
-// Done without a reply.
-fn silent(l: Live, state: State) -> Outcome
-    ensures { λ r. ⌜ r ≡ movedWith l state ⌝ }
-{
-    answering::done(answering::moved(l, state), 0, 0, 0)
-}
 
 // What a frame says to a session that the front lets pass.
 fn hearing(
@@ -47,24 +38,6 @@ fn hearing(
 }
 
 impl Session {
-    // An admission with a 16-bit number.
-    pub fn admit(self, number: u16) -> Outcome
-        ensures { λ r. ⌜ result r [] [] ≡ firstOf (admitOf self number) ⌝ }
-    {
-        let power = self.power;
-        let Power::On(l) = power else {
-            return front::unmoved(self, Answer::NotReady);
-        };
-        if l.held {
-            return front::unmoved(self, Answer::Port);
-        }
-        let state = l.state;
-        if !states::is_arbitrate(state) {
-            return front::unmoved(self, Answer::Wrong);
-        }
-        silent(l, State::Acknowledged(number))
-    }
-
     // A radio frame of n bits, with a fresh random word, a reply room and power for s stores.
     pub fn frame(
         self,

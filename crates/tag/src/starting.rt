@@ -15,6 +15,7 @@ use crate::Power;
 use crate::Register;
 use crate::Session;
 use image::Layout;
+use states::Flags;
 use states::State;
 
 pub fn off() -> Session
@@ -34,6 +35,13 @@ fn fresh(state: State) -> Session
             register: Register {
                 unwritten: false,
                 killed: false,
+            },
+            flags: Flags {
+                s0: false,
+                s1: false,
+                s2: false,
+                s3: false,
+                sl: false,
             },
         }),
     }
@@ -68,7 +76,7 @@ fn first_session(image: &[u8], y: Layout) -> Session
     ensures { λ r. ⌜ r ≡ newSession (firstIn y (now (image .entry))) ⌝ }
 {
     if bits::word(image, y.status.at as usize + 1) == 0 {
-        return fresh(State::Arbitrate);
+        return fresh(State::Ready);
     }
     fresh(State::Killed)
 }

@@ -1,4 +1,4 @@
--- `states::is_killed` meets its contract: the number decides. Assumes nothing.
+-- `states::is_killed` meets its contract. Assumes nothing.
 use borrow.Author.Needs.{needs}
 use Rattle.states.proofs.is_killed.Statement.{statement}
 use Rattle.states.proofs.is_killed.Tie as tie
@@ -7,5 +7,4 @@ returns : tie.Need-returns
 returns c = rw (c .state-number .ensures)
 
 pub is-killed-spec : {M : Type 1} → statement M
-is-killed-spec = tie.close
-    (tie.spec (search needs) returns)
+is-killed-spec = tie.close (tie.spec (λ c κs. search needs) returns)

@@ -1,4 +1,4 @@
--- `states::is_secured` meets its contract: the number decides. Assumes nothing.
+-- `states::is_secured` meets its contract. Assumes nothing.
 use borrow.Author.Needs.{needs}
 use Rattle.states.proofs.is_secured.Statement.{statement}
 use Rattle.states.proofs.is_secured.Tie as tie
@@ -7,5 +7,4 @@ returns : tie.Need-returns
 returns c = rw (c .state-number .ensures)
 
 pub is-secured-spec : {M : Type 1} → statement M
-is-secured-spec = tie.close
-    (tie.spec (search needs) returns)
+is-secured-spec = tie.close (tie.spec (λ c κs. search needs) returns)
