@@ -2,12 +2,12 @@
 use Prim.Native.Nat.{ℕ, zero, suc, _+_, _-_, _*_, _/_, _%_, _^_, _<_, _≤_}
 use mathlib.Core.Path.{_≡_, refl, sym, ap, ap₂, _∙_}
 use mathlib.Core.List.{List, [], _∷_, _++_}
-use native.Mathlib.Nat.{mod-lt, mod-one, mod-add-div, mul-zero, pow-suc}
+use native.Mathlib.Nat.{lt-of-lt-of-le, mod-lt, mod-one, mod-add-div, mul-zero, pow-suc}
 use native.Mathlib.Omega.{arith}
 use native.Mathlib.Decide.{decLt}
 use lib.Bits.{bitAnd, bitOr, bitXor, or-shr, or-mod, or-lt, and-le-l}
 use lib.ListN.{getD}
-use lib.Pow.{shr-shr, pow-pos, high}
+use lib.Pow.{shr-shr, pow-pos, pow-mono, high}
 use Rattle.bits.specs.Bits.{bitAt, bitsFrom, numberOn, fieldAt, bitsOf, wordsBits}
 use Rattle.bits.proofs.Bits.{bit-lt, bit-of, digits, bits-append, words-bits}
 
@@ -50,6 +50,9 @@ field-lt m i n =
     let e : t % 2 ^ n + 2 ^ n * 0 ≡ t = ap (λ (q : ℕ). t % 2 ^ n + 2 ^ n * q) (sym (above m n i 0)) ∙ mod-add-div t (2 ^ n) in
     let l : t % 2 ^ n < 2 ^ n = mod-lt t (pow-pos n) in
     omega (arith, mul-zero (2 ^ n))
+
+pub field-small : (m : List ℕ) (i n b : ℕ) → n ≤ b → fieldAt m i n < 2 ^ b
+field-small m i n b h = lt-of-lt-of-le (field-lt m i n) (pow-mono h)
 
 -- a field's bits are those that stand there
 bits-on : (m : List ℕ) (n i acc : ℕ) → bitsOf n (numberOn acc (bitsFrom m i n)) ≡ bitsFrom m i n

@@ -5,3 +5,4 @@ pub mod Below
 pub mod Stores
 pub mod Windows
 pub mod Fields
+pub mod Equal

@@ -1,7 +1,10 @@
 -- Bits of a list of bytes, the first bit highest. A bit is the number 0 or 1. Assumes nothing.
 use Prim.Native.Nat.{ℕ, zero, suc, _+_, _-_, _*_, _/_, _%_, _^_}
+use mathlib.Core.Bool.{Bool}
 use mathlib.Core.List.{List, [], _∷_, _++_}
+use lib.Dec.{eqb}
 use lib.ListN.{getD}
+use Rattle.bits.specs.Below.{every}
 use Rattle.bits.specs.Words.{wordAt}
 
 -- bit i of the bytes m
@@ -31,3 +34,7 @@ bitsOf (suc n) v = v / 2 ^ n % 2 ∷ bitsOf n v
 unfoldable pub wordsBits : List ℕ → ℕ → ℕ → List ℕ
 wordsBits m i zero = []
 wordsBits m i (suc k) = wordsBits m i k ++ bitsOf 16 (wordAt m (i + k))
+
+-- the n bits of a from bit i on are those of b from bit j on
+unfoldable pub alike : List ℕ → ℕ → List ℕ → ℕ → ℕ → Bool
+alike a i b j n = every (λ k. eqb (bitAt a (i + k)) (bitAt b (j + k))) n

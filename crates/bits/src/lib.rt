@@ -1,10 +1,10 @@
 // Words, bits and fields of lent bytes, the highest first. Past the end a byte reads 0, and a store there changes nothing.
 ghost use mathlib.Core.Path.{_≡_};
 ghost use mathlib.Core.Bool.{_&&_, _||_};
-ghost use Prim.Native.Nat.{_+_, _-_, _*_, _^_, _≤_, _<_};
+ghost use Prim.Native.Nat.{_+_, _-_, _*_, _/_, _^_, _≤_, _<_};
 ghost use lib.ListN.{length, getD, set};
 ghost use Rattle.bits.specs.Words.{Bytes, wordAt, withWord};
-ghost use Rattle.bits.specs.Bits.{bitAt, fieldAt};
+ghost use Rattle.bits.specs.Bits.{bitAt, fieldAt, alike as alikeOf};
 ghost use Rattle.bits.specs.Steps.{windowAt};
 
 // Byte i.
@@ -140,6 +140,68 @@ pub fn field(bytes: &[u8], at: usize, n: usize) -> u16
     ensures { λ r. ⌜ (r ≡ fieldAt (now (bytes .entry)) at n) × (r < 2 ^ n) ⌝ }
 {
     ((window(bytes, at / 8) >> (24 - at % 8 - n)) % (1 << n)) as u16
+}
+
+// The same for up to 56 bits, where the eight bytes that hold them are there.
+fn wide_field(bytes: &[u8], at: usize, n: usize) -> u64
+    requires { ⌜ (0 < n) × (n ≤ 56) × (at / 8 + 8 ≤ length (now bytes)) ⌝ }
+    ensures { λ r. ⌜ r ≡ fieldAt (now (bytes .entry)) at n ⌝ }
+{
+    eight_bytes(bytes, at / 8) << (at % 8) >> (64 - n)
+}
+
+fn at_most_16(n: usize) -> usize
+    ensures { λ r. ⌜ (r ≤ n) × (r ≤ 16) × (0 < n → 0 < r) ⌝ }
+{
+    if n < 16 { n } else { 16 }
+}
+
+// Whether the n bits of a from bit i on are those of b from bit j on: 16 at a time, wherever they lie.
+fn alike_slowly(a: &[u8], i: usize, b: &[u8], j: usize, n: usize) -> bool
+    requires { ⌜ (i < 2 ^ 32) × (j < 2 ^ 32) × (n < 256) ⌝ }
+    ensures { λ r. ⌜ r ≡ alikeOf (now (a .entry)) i (now (b .entry)) j n ⌝ }
+{
+    let mut k: usize = 0;
+    while k < n {
+        let w = at_most_16(n - k);
+        if field(a, i + k, w) != field(b, j + k, w) {
+            return false;
+        }
+        k += w;
+    }
+    true
+}
+
+// The same for up to 56 bits: at once, unless they lie near the end.
+fn alike_at_once(a: &[u8], i: usize, b: &[u8], j: usize, n: usize) -> bool
+    requires { ⌜ (i < 2 ^ 32) × (j < 2 ^ 32) × (n ≤ 56) ⌝ }
+    ensures { λ r. ⌜ r ≡ alikeOf (now (a .entry)) i (now (b .entry)) j n ⌝ }
+{
+    if n == 0 || a.len() < i / 8 + 8 || b.len() < j / 8 + 8 {
+        return alike_slowly(a, i, b, j, n);
+    }
+    wide_field(a, i, n) == wide_field(b, j, n)
+}
+
+// The same: 56 bits at a time and then the last 56, unless they lie near the end.
+pub fn alike(a: &[u8], i: usize, b: &[u8], j: usize, n: usize) -> bool
+    requires { ⌜ (i < 2 ^ 32) × (j < 2 ^ 32) × (n < 256) ⌝ }
+    ensures { λ r. ⌜ r ≡ alikeOf (now (a .entry)) i (now (b .entry)) j n ⌝ }
+{
+    if n < 56 {
+        return alike_at_once(a, i, b, j, n);
+    }
+    if a.len() <= (i + n) / 8 || b.len() <= (j + n) / 8 {
+        return alike_slowly(a, i, b, j, n);
+    }
+    let mut k: usize = 0;
+    while k + 56 < n {
+        if wide_field(a, i + k, 56) != wide_field(b, j + k, 56) {
+            return false;
+        }
+        k += 56;
+    }
+    wide_field(a, i + n - 56, 56) == wide_field(b, j + n - 56, 56)
 }
 
 // The last 16 of the first n bits. They lie in the last three bytes of these bits.

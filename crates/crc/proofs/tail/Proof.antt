@@ -2,20 +2,15 @@
 use Prim.Native.Nat.{ℕ, _+_, _-_, _*_, _/_, _%_, _^_, _≤_, _<_}
 use mathlib.Core.Path.{_≡_, refl, sym, ap, _∙_}
 use mathlib.Core.List.{List}
-use native.Mathlib.Nat.{lt-of-lt-of-le}
 use native.Mathlib.Omega.{arith}
 use denote.Ref.{now}
 use lib.ListN.{getD}
-use lib.Pow.{pow-mono, shl-exact}
+use lib.Pow.{shl-exact}
 use borrow.Author.Needs.{needs}
 use Rattle.bits.specs.Bits.{fieldAt}
-use Rattle.bits.proofs.Fields.{field-lt, field-append, field-first, byte-first, byte-more}
+use Rattle.bits.proofs.Fields.{field-lt, field-small, field-append, field-first, byte-first, byte-more}
 use Rattle.crc.proofs.tail.Statement.{statement}
 use Rattle.crc.proofs.tail.Tie as tie
-
--- a field is as small as a longer one
-small : (m : List ℕ) (i n b : ℕ) → n ≤ b → fieldAt m i n < 2 ^ b
-small m i n b h = lt-of-lt-of-le (field-lt m i n) (pow-mono h)
 
 -- whole bytes, and the first bits of the next one
 last : (m : List ℕ) → ((i : ℕ) → getD m i 0 < 256) → (at k i : ℕ) {v b : ℕ} → k < 64 → i ≡ k / 8 → v ≡ fieldAt m (8 * at) (8 * i) → b ≡ getD m (at + i) 0
@@ -46,13 +41,13 @@ mul-v : tie.Need-mul-v Inv-loop μ-loop
 mul-v c =
     let a = c .before .before .before .before .args in
     let l = c .before .loop in
-    omega (arith, small (now (a .bytes)) (8 * a .at) (8 * l .i) 48 (omega arith))
+    omega (arith, field-small (now (a .bytes)) (8 * a .at) (8 * l .i) 48 (omega arith))
 
 add-v : tie.Need-add-v Inv-loop μ-loop
 add-v c =
     let a = c .before .before .before .before .before .before .args in
     let l = c .before .before .before .loop in
-    omega (arith, small (now (a .bytes)) (8 * a .at) (8 * l .i) 48 (omega arith))
+    omega (arith, field-small (now (a .bytes)) (8 * a .at) (8 * l .i) 48 (omega arith))
 
 loop-again : tie.Need-loop-again Inv-loop μ-loop
 loop-again c =
@@ -78,7 +73,7 @@ returns-3 c =
 add-result : tie.Need-add-result Inv-loop μ-loop
 add-result c =
     let a = c .before .before .before .before .before .before .before .args in
-    rw (returns-3 c) record { fits = small (now (a .bytes)) (8 * a .at) (a .k) 64 (omega arith) }
+    rw (returns-3 c) record { fits = field-small (now (a .bytes)) (8 * a .at) (a .k) 64 (omega arith) }
 
 pub tail-spec : {M : Type 1} → statement M
 tail-spec =
