@@ -3,6 +3,7 @@ use Prim.Native.Nat.{ℕ, _+_, _-_, _*_, _%_, _^_}
 use mathlib.Core.Bool.{Bool, cond, not, _&&_, _||_}
 use mathlib.Core.List.{List, [], _∷_}
 use lib.Dec.{eqb, ltb, leb}
+use Rattle.bits.specs.Bits.{alike}
 use Rattle.bits.specs.First.{first}
 use Rattle.image.specs.declared.Layout.{Layout}
 use Rattle.frames.specs.declared.Span.{Span}
@@ -86,6 +87,7 @@ selects y m f s p =
     let b = bankOf y (s .bank) in
     ltb (s .pointer) (16 * b .words)
     && leb (s .pointer + s .count) (16 * b .words)
+    && alike m (16 * b .at + s .pointer) f p (s .count)
 
 -- what an action makes of the flag t with the value b, where the mask matches and where it does not: `one` asserts SL or makes A, `two`
 -- deasserts SL or makes B

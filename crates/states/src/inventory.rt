@@ -197,10 +197,11 @@ pub fn selects(image: &[u8], s: Span, frame: &[u8], at: usize) -> bool
     if bits <= first {
         return false;
     }
-    if bits < first + s.count as usize {
+    let count = s.count as usize;
+    if bits < first + count {
         return false;
     }
-    true
+    bits::alike(image, 16 * bank.at as usize + first, frame, at, count)
 }
 
 // What an action makes of flag t, where the mask matches and where it does not.
