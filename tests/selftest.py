@@ -56,7 +56,7 @@ def crc_cases():
 
 
 # CRC-5 of every Query, against the long division of build.py and one by hand: 1000 0000 0000 0001 0
-# and the preset leave 0001 0b.
+# with the preset laid on leaves 00010b.
 def crc5_cases():
     assert model.crc5("10000000000000010") == build.crc5("10000000000000010") == 0b00010
     for number in range(1 << 13):
