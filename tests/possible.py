@@ -4,6 +4,8 @@ A list of its own, from the states, the order of refusals and what each command 
 and compare hold the hand list and the random lists to it: every pair with every answer it can have.
 """
 
+import model
+
 # The commands by what guards their frames.
 UNGUARDED = ("QueryRep", "ACK", "QueryAdjust", "NAK")
 INVENTORY = ("Query", "QueryAdjust", "QueryRep", "ACK", "Select")
@@ -21,9 +23,10 @@ SITUATIONS = (("off", "ready", "arbitrate", "reply", "acknowledged")
               + ("killed",))
 
 
-# The situation that a session is in; half is "access", "kill" or None.
-def situation_of(state, cover, half):
-    return state + (" " + half if half else "") + (" cover" if cover else "")
+# The situation that a session of the model is in.
+def situation_of(session):
+    half = " " + model.NAMES[session.half[0]].lower() if session.half else ""
+    return session.state + half + ("" if session.cover is None else " cover")
 
 
 # Its state, its waiting half and whether it has a cover number.

@@ -231,12 +231,6 @@ def command_of(text):
     return model.code_of(model.bits_of_bytes(model.read_hex(data))[:int(count)])
 
 
-# The situation of a session.
-def situation_of(session):
-    half = session.half and model.NAMES[session.half[0]].lower()
-    return possible.situation_of(session.state, session.cover is not None, half)
-
-
 # The error codes that each command can give.
 POSSIBLE_CODES = {
     (model.READ, "03"), (model.READ, "04"), (model.WRITE, "03"), (model.WRITE, "04"),
@@ -253,7 +247,7 @@ def list_cases():
     bench, expected, held = model.Bench(), None, 0
     answers, codes, seen = set(), set(), set()
     for number, text in enumerate(model.lines_of(content), 1):
-        situation = situation_of(bench.session)
+        situation = possible.situation_of(bench.session)
         written = bench.line(text)
         if text.startswith(b"#> "):
             expected = text[3:].decode()
