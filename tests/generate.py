@@ -15,7 +15,7 @@ import possible
 from build import BANK_EPC, BANK_RESERVED, BANK_TID, BANK_USER, ENOUGH, TARGET_SL, Image
 
 # How many cases a list is given.
-CASES = 40
+CASES = 32
 
 
 # The cases of a list with this number: each list of a seed has the next ones of one long row.
@@ -524,7 +524,7 @@ class Maker:
         return int(is_b != turned)
 
     # A Query, matching as a rule, and the fresh word for it.
-    def query_bits(self, match_percent=80):
+    def query_bits(self, match_percent=75):
         chance = self.chance
         session = self.one_of((self.session_number(), 2), (chance.randrange(4), 2), (0, 1))
         target = self.right_target(session) ^ (not self.now_and_then(match_percent))
@@ -590,14 +590,19 @@ class Maker:
 
     # Any of the five.
     def inventory_frame(self):
-        make = self.one_of((self.query_bits, 3), (self.query_adjust_bits, 2), (self.query_rep_bits, 2),
-                           (self.ack_bits, 3), (self.select_bits, 2))
+        make = self.one_of((self.query_bits, 4), (self.query_adjust_bits, 3), (self.query_rep_bits, 3),
+                           (self.ack_bits, 2), (self.select_bits, 3))
         self.send(*make())
 
     # Some Selects in a row.
     def select_run(self):
         for _ in range(self.chance.randrange(1, 5)):
             self.send(*self.select_bits())
+
+    # Some QueryAdjusts in a row.
+    def adjust_run(self):
+        for _ in range(self.chance.randrange(1, 4)):
+            self.send(*self.query_adjust_bits())
 
     # QueryReps until the slot is 0, where that is near; and now and then one more.
     def count_down(self):
@@ -967,24 +972,24 @@ class Maker:
                     (self.any_frame, 1), (self.small_call, 0.7), (lambda: self.send(build.nak()), 0.2))()
 
     def in_arbitrate(self):
-        self.one_of((self.count_down, 4), (self.enter, 5), (self.spi_run, 2), (self.inventory_frame, 2),
-                    (self.any_frame, 1), (self.small_call, 0.7), (lambda: self.send(build.nak()), 0.4))()
+        self.one_of((self.count_down, 4), (self.adjust_run, 1.5), (self.enter, 6), (self.spi_run, 2),
+                    (self.inventory_frame, 1.5), (self.any_frame, 1), (self.small_call, 0.7), (lambda: self.send(build.nak()), 0.4))()
 
     def in_reply(self):
-        self.one_of((lambda: self.send(*self.ack_bits()), 8), (self.inventory_frame, 3), (self.any_frame, 1),
-                    (self.spi_run, 0.7), (self.small_call, 0.5), (lambda: self.send(build.nak()), 0.4))()
+        self.one_of((lambda: self.send(*self.ack_bits()), 8), (self.inventory_frame, 2), (self.adjust_run, 0.8),
+                    (self.any_frame, 1), (self.spi_run, 0.7), (self.small_call, 0.5), (lambda: self.send(build.nak()), 0.4))()
 
     def in_acknowledged(self):
         self.one_of((lambda: self.send(build.req_rn(self.number(15))), 8), (self.any_frame, 1),
-                    (self.inventory_frame, 1), (self.spi_run, 1), (lambda: self.send(build.nak()), 0.5))()
+                    (self.inventory_frame, 1.5), (self.spi_run, 1), (lambda: self.send(build.nak()), 0.4))()
 
     def in_open(self):
-        self.one_of((self.access, 6), (self.covered_write, 5), (self.plain_command, 6), (self.kill, 0.7),
+        self.one_of((self.access, 7), (self.covered_write, 7), (self.plain_command, 10), (self.kill, 0.8),
                     (self.any_frame, 1.2), (lambda: self.send(*self.ack_bits()), 0.5),
                     (lambda: self.send(build.nak()), 0.3), (self.small_call, 0.6))()
 
     def in_secured(self):
-        self.one_of((self.plain_command, 10), (self.covered_write, 6), (self.access, 1.5), (self.kill, 0.9),
+        self.one_of((self.plain_command, 16), (self.covered_write, 8), (self.access, 1.5), (self.kill, 0.9),
                     (self.any_frame, 1.2), (lambda: self.send(*self.ack_bits()), 0.5),
                     (lambda: self.send(build.nak()), 0.4), (self.small_call, 0.6))()
 
@@ -1021,7 +1026,7 @@ class Maker:
                 self.meet_damage()
             elif self.now_and_then(1.5):
                 self.change_image()
-            elif self.cases and self.now_and_then(14):
+            elif self.cases and self.now_and_then(12):
                 self.bring_about(*self.cases.pop())
             elif not self.image_ready() and self.now_and_then(60):
                 self.one_of((self.new_image, 1), (self.power, 2))()
