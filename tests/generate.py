@@ -534,7 +534,7 @@ class Maker:
         return build.query(q, session, target, sel, chance.randrange(16)), self.slot_word(q)
 
     def query_adjust_bits(self):
-        updn = self.one_of((build.UP, 3), (build.STAY, 2), (build.DOWN, 3), (self.chance.randrange(8), 1.5))
+        updn = self.one_of((build.UP, 3), (build.STAY, 2), (build.DOWN, 3), (self.chance.randrange(8), 3))
         q = self.session.round.q if self.session.round else self.chance.randrange(16)
         return build.query_adjust(self.session_number(), updn), self.slot_word(min(15, q + 1))
 
@@ -908,7 +908,7 @@ class Maker:
     # A line that is none, or just about one.
     def odd_line(self):
         chance = self.chance
-        good = chance.choice([b"check", b"dump", b"power 3", b"admit 12ab", b"frame 4 00 0000 2 9", b"ask", b"release", b"register",
+        good = chance.choice([b"check", b"dump", b"power 3", b"frame 4 00 0000 2 9", b"ask", b"release", b"register",
                               b"read 0 1 4", b"write 0 1234 9", b"frame 8 c0 0000 4 9", b"image 00"])
         parts = good.split(b" ")
         spoil = chance.choice([0, 1, 2, 3, 4, 5, 5, 6, 7, 8, 9, 10, 10, 10, 11, 12])
@@ -973,11 +973,13 @@ class Maker:
 
     def in_arbitrate(self):
         self.one_of((self.count_down, 4), (self.adjust_run, 1.5), (self.enter, 6), (self.spi_run, 2),
-                    (self.inventory_frame, 1.5), (self.any_frame, 1), (self.small_call, 0.7), (lambda: self.send(build.nak()), 0.4))()
+                    (self.inventory_frame, 1.5), (self.any_frame, 1), (self.small_call, 0.7),
+                    (lambda: self.send(build.nak()), 0.4))()
 
     def in_reply(self):
         self.one_of((lambda: self.send(*self.ack_bits()), 8), (self.inventory_frame, 2), (self.adjust_run, 0.8),
-                    (self.any_frame, 1), (self.spi_run, 0.7), (self.small_call, 0.5), (lambda: self.send(build.nak()), 0.4))()
+                    (self.any_frame, 1), (self.spi_run, 0.7), (self.small_call, 0.5),
+                    (lambda: self.send(build.nak()), 0.4))()
 
     def in_acknowledged(self):
         self.one_of((lambda: self.send(build.req_rn(self.number(15))), 8), (self.any_frame, 1),

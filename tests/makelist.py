@@ -839,7 +839,7 @@ def selecting(book):
         tried(BANK_EPC, pointer, flipped(epc[pointer:pointer + size], 0), False)
     for bank, bits in ((BANK_EPC, epc), (BANK_TID, tid), (BANK_USER, user)):
         size = len(bits)
-        book.note("bank %d, %d bits: at its end and past it, with bits that follow in the image and with zeros" % (bank, size))
+        book.note("bank %d, %d bits: at its end and past it, with the bits that follow and with zeros" % (bank, size))
         tried(bank, size - 8, bits[-8:], True)
         follow = word_bits(image.words())[16 * image.place(bank + 1):]
         for length in (9, 16):
@@ -1632,7 +1632,8 @@ def whole_list():
     book.note("A line '#>' says what the next line must bring; makelist.py tells its parts.")
     for part in (before_any_image, bad_lines, image_check_header, image_check_content, power_up,
                  session_and_nak, malformed, out_of_place, inventory_refused, inventory_malformed,
-                 querying, adjusting, repeating, acknowledging, selecting, inventory_between_halves, reading, writing, accessing, killing,
+                 querying, adjusting, repeating, acknowledging, selecting, inventory_between_halves,
+                 reading, writing, accessing, killing,
                  locking, block_writing, block_erasing, block_permalocking, spi_port, killed_tag,
                  image_changed):
         part(book)

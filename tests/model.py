@@ -628,10 +628,11 @@ def read_frame(bit_count, data):
 
 
 # --------------------------------------------------------------------------
-# Session and frames: wrong number, state, missing cover, zero range or RFU
+# Session and frames: wrong number, state, missing cover, zero range, RFU; what
+# of the inventory is ignored
 # --------------------------------------------------------------------------
 
-# The states a command works in; in all others it is ignored.
+# The states a command works in; in all others, Killed among them, it is ignored.
 def working_states(code):
     if code in (QUERY, SELECT):
         return ("ready", "arbitrate", "reply", *FOUND)
