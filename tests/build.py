@@ -1,6 +1,6 @@
 """Images, frames and list lines, made for trying a tag: the sender's side.
 
-Nothing here asks the model; the CRC-16 is a second, plain writing of it.
+Nothing here asks the model; CRC-16 and CRC-5 are a second, plain writing of them.
 """
 
 from dataclasses import dataclass, field
@@ -88,6 +88,16 @@ def sealed(bits):
     return bits + field_bits(crc(bits), 16)
 
 
+# The CRC-5 of bits by long division: the bits with five 0 bits after them, the
+# preset laid on the first five, divided by x^5 + x^3 + 1; the remainder.
+def crc5(bits):
+    rest = int(bits + "00000", 2) ^ 0b01001 << len(bits)
+    for place in reversed(range(len(bits))):
+        if rest >> place + 5 & 1:
+            rest ^= 0b101001 << place
+    return rest
+
+
 # A pointer as EBV-8, in at least e bytes (leading zero groups).
 def ebv(value, e=1):
     groups = [value & 0x7F]
@@ -96,6 +106,38 @@ def ebv(value, e=1):
         groups.insert(0, value & 0x7F | 0x80)
         value >>= 7
     return "".join(field_bits(group, 8) for group in groups)
+
+
+# The flags that a Select may go to: S0 to S3 are 0 to 3.
+TARGET_SL = 4
+
+# QueryAdjust's UpDn.
+UP, STAY, DOWN = 0b110, 0b000, 0b011
+
+
+# Select's mask is bits; the pointer counts bits.
+def select(target, action, bank, pointer, mask, truncate=0, e=1):
+    return sealed("1010" + field_bits(target, 3) + field_bits(action, 3) + field_bits(bank, 2)
+                  + ebv(pointer, e) + field_bits(len(mask), 8) + mask + field_bits(truncate, 1))
+
+
+# Query; link is DR, M and TRext, which the tag reads over.
+def query(q, session=0, target=0, sel=0, link=0):
+    bits = ("1000" + field_bits(link, 4) + field_bits(sel, 2) + field_bits(session, 2)
+            + field_bits(target, 1) + field_bits(q, 4))
+    return bits + field_bits(crc5(bits), 5)
+
+
+def query_adjust(session, updn):
+    return "1001" + field_bits(session, 2) + field_bits(updn, 3)
+
+
+def query_rep(session):
+    return "00" + field_bits(session, 2)
+
+
+def ack(number):
+    return "01" + field_bits(number, 16)
 
 
 def nak():

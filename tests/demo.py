@@ -10,10 +10,20 @@ import model
 
 OLD = [3, 3, 6, 10, 24, 57, 0x1811]
 NEW = [2, 3, 5, 12, 72, 0x1A25, 0]
-ADMISSION = 0x1234
 HANDLE = 0xA5C3
 ENOUGH = build.ENOUGH
 HIGH, LOW = 0, 1
+
+# The reader's Q, and the fresh words that the tag draws: at the Query, then at each QueryRep.
+Q = 2
+DRAWN = [0x7AD7, 0x2C90, 0xE41B, 0x613A]
+
+FINDING = """\
+A bench reader looks for the tag: a Query with Q = 2, then QueryReps until the tag replies. The tag
+takes its slot from the low two bits of a random word, counts it down at each QueryRep, and replies
+with a random word when it comes to 0. ACK brings the PC, the EPC and their CRC-16, Req_RN a handle.
+
+"""
 
 HEADING = """\
 A gate writes a new loan entry over the old one by BlockWrite: seven words, 23 stores on the tag.
@@ -45,12 +55,48 @@ def send(image, session, bits, fresh, s):
     return model.radio_frame(image, session, len(bits), build.pack(bits), fresh, 64, s)
 
 
+# The words of a reply.
+def words_of(reply):
+    return [int(reply[k:k + 16], 2) for k in range(0, len(reply), 16)]
+
+
+# Finds the tag of an image from power-up on: what was sent, and the answer to each.
+def find(image):
+    session = model.power_up(image, ENOUGH).session
+    steps, drawn = [], iter(DRAWN)
+
+    def step(name, bits, fresh):
+        nonlocal session
+        answer = send(image, session, bits, fresh, 0)
+        steps.append((name, answer))
+        session = answer.session
+        return words_of(answer.reply)
+
+    number = step("Query, Q = %d" % Q, build.query(Q), next(drawn))
+    while not number:
+        number = step("QueryRep", build.query_rep(0), next(drawn))
+    step("ACK", build.ack(*number), 0)
+    step("Req_RN", build.req_rn(*number), HANDLE)
+    return steps
+
+
+# Tells how the tag is found.
+def tell_finding():
+    print(FINDING, end="")
+    line = "%-12s  %-12s  %4s  %s"
+    print(line % ("sent", "state", "slot", "the tag replies"))
+    steps = find(start())
+    for name, answer in steps:
+        slot = "-" if answer.session.slot is None else answer.session.slot
+        print(line % (name, answer.session.state, slot, shown(words_of(answer.reply)) or "nothing"))
+    pc, *epc, _ = words_of(dict(steps)["ACK"].reply)
+    print("\nThe tag is found: PC %04x, EPC %s.\n" % (pc, shown(epc)))
+
+
 # The gate writes the new entry with power for k stores; the stores made.
 def gate(image, k):
-    session = model.power_up(image, ENOUGH).session
-    session = model.admit(session, ADMISSION).session
-    session = send(image, session, build.req_rn(ADMISSION), HANDLE, 0).session
-    frame = build.block_write(build.BANK_USER, 0, NEW, HANDLE)
+    session = find(image)[-1][1].session
+    frame = build.block_write(build.BANK_USER, 0, NEW, session.number)
     answer = send(image, session, frame, 0, k)
     assert answer.number == (11 if k < 3 * len(NEW) + 2 else 0)
     return answer.made
@@ -60,8 +106,7 @@ def gate(image, k):
 def engine(image):
     session = model.power_up(image, ENOUGH).session
     session = model.ask(session).session
-    reply = model.spi_read(image, session, 0, len(NEW), 2 * len(NEW)).reply
-    return [int(reply[16 * k:16 * k + 16], 2) for k in range(len(NEW))]
+    return words_of(model.spi_read(image, session, 0, len(NEW), 2 * len(NEW)).reply)
 
 
 # What a list of stores has come to.
@@ -126,6 +171,7 @@ def total(name, sights):
 
 def main():
     assert build.Image().user[:7] == OLD
+    tell_finding()
     print(HEADING % (shown(OLD), shown(NEW)), end="")
     stores = len(gate(start(), ENOUGH))
     between, inside = [], []

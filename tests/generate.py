@@ -1,25 +1,42 @@
 """Random command lists that go deep.
 
 The maker drives a model bench with every line it writes, and so knows the
-session and the image that the next line meets: it can carry a tag to Open and
-Secured, send the right number, lay on the right cover, meet a room or a cut to
-the byte, and then go wrong on purpose.
+session and the image that the next line meets: it can find a tag, carry it to
+Open and Secured, send the right number, lay on the right cover, meet a room or a
+cut to the byte, and then go wrong on purpose. Beside what it does by chance it
+is given cases to bring about: a situation, a command or call, and its answer.
 """
+
+import random
 
 import build
 import model
-from build import BANK_EPC, BANK_RESERVED, BANK_TID, BANK_USER, ENOUGH, Image
+import possible
+from build import BANK_EPC, BANK_RESERVED, BANK_TID, BANK_USER, ENOUGH, TARGET_SL, Image
+
+# How many cases a list is given.
+CASES = 32
+
+
+# The cases of a list with this number: each list of a seed has the next ones of one long row.
+def cases_for(seed, number):
+    row = list(possible.POSSIBLE)
+    random.Random("cases/%d" % seed).shuffle(row)
+    return [row[k % len(row)] for k in range(CASES * (number - 1), CASES * number)]
 
 
 class Maker:
     """Makes one list of about so many lines."""
 
-    def __init__(self, chance, length):
+    def __init__(self, chance, length, cases=()):
         self.chance = chance
         self.length = length
+        self.cases = list(cases)
         self.lines = []
         self.written = []
+        self.situations = []            # before each line
         self.bench = model.Bench()
+        self.slips = 4                  # of a hundred numbers, so many are wrong
         self.size = chance.choice(["smallest", "small", "small", "middle", "middle", "edge", "largest"])
 
     # ---------------------------------------------------------------- chances
@@ -43,6 +60,7 @@ class Maker:
     def put(self, line):
         line = line if isinstance(line, bytes) else line.encode("ascii")
         self.lines.append(line)
+        self.situations.append(possible.situation_of(self.session))
         self.written.append(self.bench.line(line))
 
     @property
@@ -308,8 +326,7 @@ class Maker:
 
     # A call without an image, at any time.
     def small_call(self):
-        self.put(self.one_of(("ask", 2), ("release", 2), ("register", 2),
-                             ("admit %04x" % self.any_word(), 2), ("check", 1)))
+        self.put(self.one_of(("ask", 2), ("release", 2), ("register", 2), ("check", 1)))
 
     # ----------------------------------------------------------------- frames
 
@@ -343,6 +360,8 @@ class Maker:
     # Sends a frame with length, code, CRC or bit count wrong.
     def send_spoilt(self, bits, fresh):
         chance = self.chance
+        if not bits:
+            bits = "0"
         place = chance.randrange(len(bits))
         flipped = bits[:place] + "10"[int(bits[place])] + bits[place + 1:]
         body = bits[:-16] if len(bits) > 16 else bits
@@ -360,7 +379,7 @@ class Maker:
         elif kind == 6:
             data = build.pack(bits)[:-1]
         elif kind == 7:
-            code = chance.choice([0xBF, 0xCA, 0xCB, 0x00, 0xFF, 0xC0, chance.randrange(256)])
+            code = chance.choice([0xBF, 0xCA, 0xCB, 0x00, 0xFF, 0xC0, 0xB0, 0xA0, 0x90, 0x80, chance.randrange(256)])
             bits = build.sealed(build.field_bits(code, 8) + body[8:])
         elif kind == 8:
             bits = build.sealed(body + chance.choice([1, 8, 16]) * "0")
@@ -369,9 +388,9 @@ class Maker:
         self.put(build.frame_line(bits, fresh, 64, ENOUGH, count, data))
 
     # The number that the session holds, or another in its place.
-    def number(self, wrong_percent=4):
+    def number(self, wrong_percent=None):
         right = self.session.number
-        if right is None or self.now_and_then(wrong_percent):
+        if right is None or self.now_and_then(self.slips if wrong_percent is None else wrong_percent):
             return self.chance.choice([(right or 0) ^ 1, self.any_word(), (right or 0) ^ 0x8000])
         return right
 
@@ -469,23 +488,146 @@ class Maker:
             mask |= self.chance.choice([1, ~existing & 0xFFFF, ~existing & existing >> 1])
         return mask
 
+    # A half of the password that stands at this RESERVED word: the right one, or any.
+    def some_half(self, first):
+        right = self.section_word("RESERVED", first + (self.session.half is not None))
+        return self.one_of((right, 1), (self.any_word(), 1))
+
     def access_bits(self, half=None):
-        return build.access(self.any_word() if half is None else half, self.cover(), self.number())
+        return build.access(self.some_half(2) if half is None else half, self.cover(), self.number())
 
     def kill_bits(self, half=None):
-        return build.kill(self.any_word() if half is None else half, self.cover(), self.number(),
+        return build.kill(self.some_half(0) if half is None else half, self.cover(), self.number(),
                           self.chance.randrange(8))
 
     def req_rn_bits(self):
         return build.req_rn(self.number())
 
-    # Any of the ten commands.
+    # ---------------------------------------------------- the inventory's five
+
+    # A session number: that of the round as a rule, or any.
+    def session_number(self):
+        if self.session.round is None or self.now_and_then(self.slips):
+            return self.chance.randrange(4)
+        return self.session.round.session
+
+    # A fresh word whose low Q bits are 0 or few, or any.
+    def slot_word(self, q):
+        high = self.any_word() >> q << q
+        return self.one_of((high, 5), (high | self.chance.randrange(4) & (1 << q) - 1, 5), (self.any_word(), 2))
+
+    # The target that a tag with these flags has in a Query, as it stands then.
+    def right_target(self, session):
+        flags = self.session.flags or model.Flags()
+        is_b = flags.inventoried[session] == "B"
+        turned = self.state in model.FOUND and self.session.round.session == session
+        return int(is_b != turned)
+
+    # A Query, matching as a rule, and the fresh word for it.
+    def query_bits(self, match_percent=75):
+        chance = self.chance
+        session = self.one_of((self.session_number(), 2), (chance.randrange(4), 2), (0, 1))
+        target = self.right_target(session) ^ (not self.now_and_then(match_percent))
+        sl = self.session.flags is not None and self.session.flags.sl
+        sel = self.one_of((0, 3), (1, 2), (3 if sl else 2, 4), (2 if sl else 3, 0.6))
+        q = self.one_of((0, 4), (1, 3), (2, 3), (3, 1), (15, 1), (14, 0.5), (chance.randrange(16), 4))
+        return build.query(q, session, target, sel, chance.randrange(16)), self.slot_word(q)
+
+    def query_adjust_bits(self):
+        updn = self.one_of((build.UP, 3), (build.STAY, 2), (build.DOWN, 3), (self.chance.randrange(8), 3))
+        q = self.session.round.q if self.session.round else self.chance.randrange(16)
+        return build.query_adjust(self.session_number(), updn), self.slot_word(min(15, q + 1))
+
+    def query_rep_bits(self):
+        return build.query_rep(self.session_number()), self.any_word()
+
+    def ack_bits(self):
+        return build.ack(self.number()), self.any_word()
+
+    # The bits of a bank of the image held, as many as the header says.
+    def bank_bits(self, bank):
+        layout, name = self.layout(), model.BANKS[bank]
+        data = bytes(self.bench.image[2 * layout.offset[name]:2 * (layout.offset[name] + layout.count[name])])
+        return model.bits_of_bytes(data).ljust(16 * layout.count[name], "0")
+
+    # A mask and its pointer: right, nearly right, past the bank's end, of no bits, or any.
+    def mask_at(self, bank):
+        chance, bits = self.chance, self.bank_bits(bank)
+        size = len(bits)
+        pointer = chance.randrange(size) if size else 0
+        pointer = self.one_of((pointer, 4), (pointer // 16 * 16, 3), (min(16, max(0, size - 1)), 2),
+                              (max(0, size - chance.randrange(1, 40)), 3), (0, 1))
+        length = chance.choice([chance.randrange(1, 20), chance.randrange(1, 20), 16, 32, chance.randrange(256), 255])
+        mask = bits[pointer:pointer + length]
+        kind = self.one_of(("right", 8), ("near", 4), ("past", 3), ("none", 3), ("any", 1))
+        if kind == "near" and mask:
+            place = chance.choice([0, len(mask) - 1, chance.randrange(len(mask))])
+            mask = mask[:place] + "10"[int(mask[place])] + mask[place + 1:]
+        elif kind == "past":
+            pointer = max(0, size - chance.choice([0, 1, 8, 16, chance.randrange(200)]))
+            mask = bits[pointer:] + chance.choice([1, 1, 8, 16]) * chance.choice("01")
+        elif kind == "none":
+            pointer = chance.choice([pointer, 0, max(0, size - 1), size, size, size + 1, size + 16, 0x1FFFFF])
+            mask = ""
+        elif kind == "any":
+            pointer = chance.choice([pointer, 127, 128, 16383, 16384, chance.randrange(1 << 21)])
+            mask = "".join(chance.choice("01") for _ in range(length))
+        return pointer, mask[:255]
+
+    def select_bits(self):
+        chance = self.chance
+        bank = self.one_of((BANK_EPC, 6), (BANK_TID, 2), (BANK_USER, 4), (BANK_RESERVED, 0.3))
+        target = self.one_of((chance.randrange(4), 5), (TARGET_SL, 4), (chance.randrange(5, 8), 0.4))
+        pointer, mask = self.mask_at(bank)
+        return build.select(target, chance.randrange(8), bank, pointer, mask, int(self.now_and_then(3)),
+                            self.one_of((1, 75), (2, 11), (3, 12), (4, 2))), self.any_word()
+
+    # A frame of 0 to 9 bits, whatever they are.
+    def short_frame(self):
+        bits = "".join(self.chance.choice("01") for _ in range(self.chance.randrange(10)))
+        data = build.pack(bits, self.chance.choice("01"))
+        self.put(build.frame_line(bits, self.any_word(), self.chance.choice([0, 1, 2, 4]), ENOUGH, data=data))
+
+    # Any of the five.
+    def inventory_frame(self):
+        make = self.one_of((self.query_bits, 4), (self.query_adjust_bits, 3), (self.query_rep_bits, 3),
+                           (self.ack_bits, 2), (self.select_bits, 3))
+        self.send(*make())
+
+    # Some Selects in a row.
+    def select_run(self):
+        for _ in range(self.chance.randrange(1, 5)):
+            self.send(*self.select_bits())
+
+    # Some QueryAdjusts in a row.
+    def adjust_run(self):
+        for _ in range(self.chance.randrange(1, 4)):
+            self.send(*self.query_adjust_bits())
+
+    # QueryReps until the slot is 0, where that is near; and now and then one more.
+    def count_down(self):
+        near = self.session.slot if self.session.slot is not None and self.session.slot < 8 else 2
+        for _ in range(near + self.now_and_then(10)):
+            self.send(*self.query_rep_bits())
+
+    # From any state to Acknowledged, as a rule.
+    def find(self):
+        self.send(*self.query_bits(95))
+        if self.state == "arbitrate" and self.session.slot < 8 and self.now_and_then(80):
+            self.count_down()
+        if self.state == "reply":
+            self.send(*self.ack_bits())
+
+    # Any of the fifteen commands.
     def any_frame(self):
         make = self.one_of((self.req_rn_bits, 3), (self.read_bits, 3), (self.write_bits, 3),
                            (self.kill_bits, 2), (self.lock_bits, 2), (self.access_bits, 2),
                            (self.block_write_bits, 2), (self.block_erase_bits, 2),
-                           (self.block_permalock_bits, 2), (build.nak, 0.4))
-        self.send(make())
+                           (self.block_permalock_bits, 2), (build.nak, 0.4), (None, 8))
+        if make is None:
+            self.one_of((self.inventory_frame, 8), (self.short_frame, 1))()
+        else:
+            self.send(make())
 
     # A command that needs no cover.
     def plain_command(self):
@@ -582,12 +724,191 @@ class Maker:
         if self.now_and_then(85):
             self.put("release")
 
+    # ----------------------------------------------------------- given cases
+
+    # Brings a case about: a situation, and in it a command or call that is answered so.
+    def bring_about(self, situation, kind, answer):
+        self.reach(situation, kind, answer)
+        if possible.situation_of(self.session) != situation:
+            return
+        if kind not in possible.CALLS:
+            self.bring_frame(kind, answer)
+        else:
+            self.bring_call(kind, answer)
+        if self.session.held and self.now_and_then(80):
+            self.put("release")
+
+    # An image on which the case can come about.
+    def image_for(self, situation, kind, answer):
+        state, half, _ = possible.parts_of(situation)
+        size = self.size
+        if size in ("smallest", "edge") and self.now_and_then(70) or size == "largest" and self.now_and_then(85):
+            self.size = "small"
+        image = self.good_image()
+        while not image.user:
+            self.size = "small"
+            image = self.good_image()
+        self.size = size
+        image.pending, image.killed = 0, int(state == "killed")
+        image.reserved[0:2] = [0, 0] if (kind, answer) == ("Kill", 10) else self.nonzero()
+        image.reserved[2:4] = self.nonzero() if state == "open" else [0, 0]
+        image.lock = 0
+        image.perma = [0] * len(image.perma)
+        if answer == 10:
+            image.lock = self.lock_word() | self.chance.choice([0, 0x155, 0x100])
+        return image
+
+    # A password that is none of zeros.
+    def nonzero(self):
+        return self.chance.choice([[self.any_word() | 1, self.any_word()], [0, self.any_word() | 0x100]])
+
+    # A frame with room and power enough.
+    def surely(self, bits, fresh=None):
+        fresh = self.any_word() if fresh is None else fresh
+        room = -(-len(self.foreseen(bits, fresh).reply) // 8)
+        self.put(build.frame_line(bits, fresh, room + self.chance.randrange(3), ENOUGH))
+
+    # A new tag brought to this situation.
+    def reach(self, situation, kind, answer):
+        state, half, cover = possible.parts_of(situation)
+        self.put(build.image_line(self.image_for(situation, kind, answer).bytes()))
+        self.put("power %d" % (0 if state == "off" else ENOUGH))
+        if state in ("off", "killed"):
+            return
+        while self.now_and_then(25):
+            self.surely(*self.select_bits())
+        if state == "ready":
+            return
+        session, q = self.chance.randrange(4), self.chance.choice([1, 2, 4, 14, 15, self.chance.randrange(1, 16)])
+        slot = 0
+        if state == "arbitrate":
+            slot = 1 if (kind, answer) == ("QueryRep", 4) else self.chance.randrange(1, 1 << q)
+        elif self.now_and_then(30):
+            q = 0
+        self.surely(build.query(q, session, self.right_target(session)), self.any_word() >> q << q | slot)
+        if state in ("arbitrate", "reply"):
+            return
+        self.surely(build.ack(self.number(0)))
+        if state == "acknowledged":
+            return
+        self.surely(build.req_rn(self.number(0)))
+        if half:
+            self.surely(build.req_rn(self.number(0)))
+            make, first = (self.access_bits, 2) if half == "access" else (self.kill_bits, 0)
+            slips, self.slips = self.slips, 0
+            self.surely(make(self.section_word("RESERVED", first)))
+            self.slips = slips
+        if cover:
+            self.surely(build.req_rn(self.number(0)))
+
+    # An image for 1, 2, 3, or 5 in place of a good one.
+    def image_refused(self, answer):
+        image, chance = self.good_image(), self.chance
+        image.pending = 0
+        if answer == 1:
+            return image.bytes()[:chance.choice([0, 31, chance.randrange(32)])]
+        if answer == 2:
+            return chance.choice([image.bytes()[:-2], image.bytes()[:-1], self.one_more(image, build.STATUS)])
+        if answer == 3:
+            return self.break_status(image)
+        self.add_pending(image)
+        return image.bytes()
+
+    # Puts what it takes in front of a call that is answered so: another image, or the port asked for.
+    # What stands instead of it afterwards is the image that stood before.
+    def prepare(self, answer):
+        before = bytes(self.bench.image)
+        if answer in (1, 2, 3) or (answer == 5 and self.state != "off"):
+            self.put(build.image_line(self.image_refused(answer)))
+        return before
+
+    def restore(self, before):
+        if bytes(self.bench.image) != before and self.state != "off" and self.now_and_then(90):
+            self.put(build.image_line(before))
+
+    # The makers of frames, by the commands' names.
+    def maker_of(self, kind):
+        return {"Query": self.query_bits, "QueryAdjust": self.query_adjust_bits, "QueryRep": self.query_rep_bits,
+                "ACK": self.ack_bits, "Select": self.select_bits, "NAK": build.nak, "Req_RN": self.req_rn_bits,
+                "Read": self.read_bits, "Write": self.write_bits, "Kill": self.kill_bits, "Lock": self.lock_bits,
+                "Access": self.access_bits, "BlockWrite": self.block_write_bits,
+                "BlockErase": self.block_erase_bits, "BlockPermalock": self.block_permalock_bits,
+                "unknown code": self.unknown_bits}[kind]
+
+    # Bits that begin no code, or end before one.
+    def unknown_bits(self):
+        tail = "".join(self.chance.choice("01") for _ in range(self.chance.randrange(60)))
+        return self.chance.choice(["", "0", "1", "10", "100", "101", "11", "1100000", "11001",
+                                   *(bits + tail for bits in ("1011", "1101", "111", "1100101", "110011"))])
+
+    # A frame of this command whose answer, room and power given, is this one; None if chance brings none.
+    def bits_for(self, kind, answer):
+        make = self.maker_of(kind)
+        for _ in range(80):
+            made = make()
+            bits, fresh = made if isinstance(made, tuple) else (made, self.any_word())
+            if answer == 7 and kind != "unknown code":
+                bits = self.chance.choice([bits + "0", bits + "1", bits + 8 * "0", bits[:-1],
+                                           bits[:self.chance.randrange(len(bits))]])
+            elif answer == 8:
+                place = len(bits) - self.chance.randrange(1, 6)
+                bits = bits[:place] + "10"[int(bits[place])] + bits[place + 1:]
+            found = self.foreseen(bits, fresh)
+            if model.NAMES.get(model.code_of(bits), "unknown code") != kind:
+                continue
+            if answer == found.number or (answer == 4 and found.reply) or (answer == 11 and found.made):
+                return bits, fresh, found
+        return None
+
+    def bring_frame(self, kind, answer):
+        if answer == 6:
+            self.put("ask")
+        before = self.prepare(answer)
+        slips, self.slips = self.slips, 50 if answer == 9 else self.slips
+        made = self.bits_for(kind, answer)
+        self.slips = slips
+        if made:
+            bits, fresh, found = made
+            need, stores = -(-len(found.reply) // 8), len(found.made)
+            room = self.chance.choice([need - 1, self.chance.randrange(need)]) if answer == 4 else need
+            s = self.chance.choice([stores - 1, self.chance.randrange(stores)]) if answer == 11 else ENOUGH
+            self.put(build.frame_line(bits, fresh, room, s, data=build.pack(bits, self.chance.choice("01"))))
+        self.restore(before)
+
+    def bring_call(self, call, answer):
+        if call == "power":
+            self.bring_power(answer)
+            return
+        holds = answer in (0, 4, 11, 13) if call != "ask" else answer == 6
+        if holds and self.state not in ("off", "open", "secured"):
+            self.put("ask")
+        before = self.prepare(answer)
+        most = max(1, min(16, self.layout().count["USER"]))
+        count = 0 if answer == 13 else self.chance.randrange(1, most + 1)
+        if call in ("ask", "release", "register"):
+            self.put(call)
+        elif call == "read":
+            self.put("read 0 %d %d" % (count, 2 * count - (answer == 4)))
+        else:
+            data = bytes(self.chance.randrange(256) for _ in range(2 * count))
+            s = self.chance.randrange(3 * count + 2) if answer == 11 else ENOUGH
+            self.put("write 0 %s %d" % (build.show(data), s))
+        self.restore(before)
+
+    # A power-up that is answered so.
+    def bring_power(self, answer):
+        before = self.prepare(answer)
+        need = len(model.power_up(bytearray(self.bench.image), ENOUGH).made)
+        self.put("power %d" % (self.chance.randrange(need) if answer == 11 else need))
+        if bytes(self.bench.image) != before and self.now_and_then(90):
+            self.put(build.image_line(before))
+
     # -------------------------------------------------------------- bad lines
 
     # A line that is none, or just about one.
     def odd_line(self):
         chance = self.chance
-        good = chance.choice([b"check", b"dump", b"power 3", b"admit 12ab", b"ask", b"release", b"register",
+        good = chance.choice([b"check", b"dump", b"power 3", b"frame 4 00 0000 2 9", b"ask", b"release", b"register",
                               b"read 0 1 4", b"write 0 1234 9", b"frame 8 c0 0000 4 9", b"image 00"])
         parts = good.split(b" ")
         spoil = chance.choice([0, 1, 2, 3, 4, 5, 5, 6, 7, 8, 9, 10, 10, 10, 11, 12])
@@ -621,7 +942,7 @@ class Maker:
                 b"frame 8 c0 000 4 9", b"frame 8 c0 00000 4 9", b"frame 8 C0 0000 4 9", b"frame 8 - 0000 00 9",
                 b"read 1000001 1 4", b"read 0 1000001 4", b"read 0 1 9605", b"read 0 01 4",
                 b"read 1000000 1000000 0", b"write 1000001 00 9", b"write 0 00 1000001", b"write 0 0 9",
-                b"admit 0", b"admit -", b"admit 00000"])
+                b"admit", b"admit 1234", b"admit -", b"admit 00000"])
         elif spoil == 11:
             line = chance.choice([b"images 00", b"chec", b"c", b"frame", b"nak", b"image"])
         else:
@@ -637,28 +958,42 @@ class Maker:
         self.one_of((self.power, 10), (self.any_frame, 1), (self.small_call, 1), (self.new_image, 1),
                     (self.spi_read, 0.3), (self.spi_write, 0.3))()
 
-    # From Arbitrate to Open or Secured.
+    # To Acknowledged, and on to Open or Secured.
     def enter(self):
-        self.put("admit %04x" % self.any_word())
+        self.find()
         if self.now_and_then(10):
             self.one_of((self.any_frame, 3), (self.spi_run, 3), (self.small_call, 2),
                         (self.change_image, 1))()
-        self.send(build.req_rn(self.number()))
+        if self.state == "acknowledged":
+            self.send(build.req_rn(self.number()))
+
+    def in_ready(self):
+        self.one_of((self.enter, 9), (self.spi_run, 3), (self.select_run, 1.5), (self.inventory_frame, 1),
+                    (self.any_frame, 1), (self.small_call, 0.7), (lambda: self.send(build.nak()), 0.2))()
 
     def in_arbitrate(self):
-        self.one_of((self.enter, 9), (self.spi_run, 5), (self.any_frame, 1), (self.small_call, 1))()
+        self.one_of((self.count_down, 4), (self.adjust_run, 1.5), (self.enter, 6), (self.spi_run, 2),
+                    (self.inventory_frame, 1.5), (self.any_frame, 1), (self.small_call, 0.7),
+                    (lambda: self.send(build.nak()), 0.4))()
+
+    def in_reply(self):
+        self.one_of((lambda: self.send(*self.ack_bits()), 8), (self.inventory_frame, 2), (self.adjust_run, 0.8),
+                    (self.any_frame, 1), (self.spi_run, 0.7), (self.small_call, 0.5),
+                    (lambda: self.send(build.nak()), 0.4))()
 
     def in_acknowledged(self):
         self.one_of((lambda: self.send(build.req_rn(self.number(15))), 8), (self.any_frame, 1),
-                    (self.spi_run, 1), (lambda: self.send(build.nak()), 0.5))()
+                    (self.inventory_frame, 1.5), (self.spi_run, 1), (lambda: self.send(build.nak()), 0.4))()
 
     def in_open(self):
-        self.one_of((self.access, 6), (self.covered_write, 5), (self.plain_command, 6), (self.kill, 0.7),
-                    (self.any_frame, 2), (lambda: self.send(build.nak()), 0.3), (self.small_call, 0.6))()
+        self.one_of((self.access, 7), (self.covered_write, 7), (self.plain_command, 10), (self.kill, 0.8),
+                    (self.any_frame, 1.2), (lambda: self.send(*self.ack_bits()), 0.5),
+                    (lambda: self.send(build.nak()), 0.3), (self.small_call, 0.6))()
 
     def in_secured(self):
-        self.one_of((self.plain_command, 10), (self.covered_write, 6), (self.access, 1.5), (self.kill, 0.9),
-                    (self.any_frame, 2), (lambda: self.send(build.nak()), 0.5), (self.small_call, 0.6))()
+        self.one_of((self.plain_command, 16), (self.covered_write, 8), (self.access, 1.5), (self.kill, 0.9),
+                    (self.any_frame, 1.2), (lambda: self.send(*self.ack_bits()), 0.5),
+                    (lambda: self.send(build.nak()), 0.4), (self.small_call, 0.6))()
 
     def in_killed(self):
         self.one_of((self.new_image, 3), (self.spi_run, 4), (self.any_frame, 3), (self.small_call, 2),
@@ -693,11 +1028,15 @@ class Maker:
                 self.meet_damage()
             elif self.now_and_then(1.5):
                 self.change_image()
+            elif self.cases and self.now_and_then(12):
+                self.bring_about(*self.cases.pop())
             elif not self.image_ready() and self.now_and_then(60):
                 self.one_of((self.new_image, 1), (self.power, 2))()
             elif self.session.held:
                 self.in_held()
             else:
                 getattr(self, "in_" + self.state)()
+        while self.cases:
+            self.bring_about(*self.cases.pop())
         self.put("dump")
         return self.lines

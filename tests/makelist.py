@@ -8,7 +8,9 @@ pairs of a key and a value:
   code       the error reply's code, two hex digits
   data       the words of a Read's or a permalock reading's reply, or an SPI
              read's, parted by commas
-  state, number, cover, half, port, register   the session's parts
+  whole      all words of a reply that has no odd bits: ACK's, or a random word
+  state, number, cover, half, port, register, slot, q, round, flags   the
+             session's parts
   bytes      how many bytes the image has now
   word       OFFSET:VALUE in the image that a dump shows
   bad        the line is a bad line
@@ -21,7 +23,7 @@ from build import *
 HERE = os.path.dirname(os.path.abspath(__file__))
 LIST = os.path.join(HERE, "..", "crates", "bench", "stdin")
 
-ADMISSION = 0x1234
+NUMBER = 0x1234
 HANDLE = 0xA5C3
 WRONG = 0xA5C2
 COVER = 0x0F1E
@@ -72,15 +74,35 @@ class Book:
     # An image brought up to the state that its access password leads to.
     def begin(self, image):
         self.image(image)
-        self.line("power %d" % ENOUGH, "answer 0 state arbitrate")
+        self.line("power %d" % ENOUGH, "answer 0 state ready")
         self.resume(image)
 
-    # From Arbitrate to Open or Secured.
+    # The tag found, by Query with Q = 0 and ACK: from Ready or Arbitrate to Acknowledged.
+    def find(self):
+        self.frame(query(0), "answer 0 whole %04x state reply number %04x" % (NUMBER, NUMBER),
+                   fresh=NUMBER, room=2)
+        self.frame(ack(NUMBER), "answer 0 state acknowledged number %04x" % NUMBER)
+
+    # From Ready or Arbitrate to Open or Secured.
     def resume(self, image):
         state = "open" if image.reserved[2] or image.reserved[3] else "secured"
-        self.line("admit %04x" % ADMISSION, "answer 0 state acknowledged number %04x" % ADMISSION)
-        self.frame(req_rn(ADMISSION), "answer 0 reply 32 state %s number %04x cover -"
+        self.find()
+        self.frame(req_rn(NUMBER), "answer 0 reply 32 state %s number %04x cover -"
                    % (state, HANDLE), fresh=HANDLE)
+
+    # A new tag brought to this state, as STANDING tells it.
+    def bring(self, state):
+        image = STARTS[state]
+        self.image(image)
+        self.line("power 1", "answer 0 flags AAAA-")
+        if state == "arbitrate":
+            self.frame(query(4), "answer 0 reply 0", fresh=0x1235, room=0)
+        elif state == "reply":
+            self.frame(query(0), "answer 0 reply 16", fresh=NUMBER, room=2)
+        elif state == "acknowledged":
+            self.find()
+        elif state in ("open", "secured"):
+            self.resume(image)
 
     # A cover number.
     def cover(self, cover=COVER, half="-"):
@@ -117,6 +139,34 @@ def wide(**changes):
     return small(user=list(range(40)), **changes)
 
 
+# The states that a tag under power may be in, the image that leads to each, and
+# how the session stands when Book.bring has brought it there.
+STARTS = {"ready": small(), "arbitrate": small(), "reply": small(), "acknowledged": small(),
+          "open": guarded(), "secured": small(), "killed": small(killed=1)}
+STANDING = {
+    "ready": "state ready number - cover - half - slot - q - round - flags AAAA-",
+    "arbitrate": "state arbitrate number - cover - half - slot 5 q 4 round s0 flags AAAA-",
+    "reply": "state reply number 1234 cover - half - slot - q 0 round s0 flags AAAA-",
+    "acknowledged": "state acknowledged number 1234 cover - half - slot - q 0 round s0 flags AAAA-",
+    "open": "state open number a5c3 cover - half - slot - q 0 round s0 flags AAAA-",
+    "secured": "state secured number a5c3 cover - half - slot - q 0 round s0 flags AAAA-",
+    "killed": "state killed number - cover - half - slot - q - round - flags AAAA-"}
+FOUND = ("acknowledged", "open", "secured")
+IN_ROUND = ("arbitrate", "reply") + FOUND
+
+
+# The number that a tag in this state goes by.
+def number_in(state):
+    return HANDLE if state in ("open", "secured") else NUMBER
+
+
+# A well-formed frame of each command of the inventory, for this number; the
+# round's session is S0.
+def inventory(number):
+    return [("Query", query(0)), ("QueryAdjust", query_adjust(0, STAY)), ("QueryRep", query_rep(0)),
+            ("ACK", ack(number)), ("Select", select(0, 0, BANK_EPC, 16, "0001"))]
+
+
 # A well-formed frame of each command, for this handle, cover COVER.
 def one_of_each(handle):
     return [("Req_RN", req_rn(handle)),
@@ -142,8 +192,9 @@ def before_any_image(book):
     book.line("check", "answer 1")
     book.line("dump", "bytes 0")
     book.line("power 5", "answer 1 stores 0 state off port free register 0")
-    book.line("admit 1234", "answer 5 state off")
-    book.frame(nak(), "answer 1 stores 0 reply 0 state off", room=3)
+    book.frame(nak(), "answer 1 stores 0 reply 0 state off flags -", room=3)
+    for name, bits in inventory(NUMBER):
+        book.frame(bits, "answer 1 reply 0 state off slot - q - round - flags -", room=2)
     for call in ("ask", "release", "register"):
         book.line(call, "answer 5 state off port free register 0")
     book.line("read 0 1 4", "answer 1 reply 0")
@@ -155,8 +206,8 @@ def bad_lines(book):
     for text in ("imagine 00", "image", "image 0", "image 0A", "image 00 00", "image  00",
                  "image ", "check ", " check", "Check", "check 1", "dump -", "power",
                  "power 01", "power -1", "power +1", "power 1000001", "power 1 ", "power a",
-                 "power 99999999999999999999", "admit", "admit 123", "admit 12345", "admit 12G4",
-                 "admit ABCD", "admit -", "frame 8 c0 0000 9605 0", "frame 8 c0 0000 0 1000001",
+                 "power 99999999999999999999", "admit", "admit 1234", "admit abcd", "admit -",
+                 "admit 1234 5", "admit ", "frame 8 c0 0000 9605 0", "frame 8 c0 0000 0 1000001",
                  "frame 1000001 c0 0000 0 0", "frame 08 c0 0000 0 0", "frame 8 c 0000 0 0",
                  "frame 8 c0 000 0 0", "frame 8 c0 0000 0", "frame 8 c0 0000 0 0 0",
                  "ask now", "release port", "register 0", "read 0 1", "read 0 1 9605",
@@ -250,7 +301,8 @@ def power_up(book):
     book.image(stale)
     book.line("power 0", "answer 11 stores 0 state off")
     book.dump(_22=0)
-    book.line("power 1", "answer 0 stores 1 reply 0 state arbitrate number - cover - half - port free register 0")
+    book.line("power 1", "answer 0 stores 1 reply 0 state ready number - cover - half - port free register 0 "
+              "slot - q - round - flags AAAA-")
     book.dump(_22=0x9297)
     book.note("pending: words first, then the count, then the CRC of the new PC")
     pairs = [(18, 0x1111), (23, 0x0800), (31, 0xABCD)]
@@ -263,18 +315,18 @@ def power_up(book):
                   _31=0xABCD if s > 2 else 10, _45=0 if s > 3 else 3, _22=0)
         book.note("cut again, then whole")
         book.line("power 2", "answer 11 stores 2 state off" if s < 4 else "answer 0 stores 1")
-        book.line("power 5", "answer 0 stores 5 state arbitrate" if s < 4
-                  else "answer 0 stores 1 state arbitrate")
+        book.line("power 5", "answer 0 stores 5 state ready" if s < 4
+                  else "answer 0 stores 1 state ready")
         book.dump(_18=0x1111, _23=0x0800, _31=0xABCD, _45=0, _22=crc_after)
     book.note("a pending killed word kills; a pending EPC word 0 gives way to the CRC")
     book.image(small(pending=2, work=[(17, 1), (22, 0x5555)]))
-    book.line("power 4", "answer 0 stores 4 state killed")
+    book.line("power 4", "answer 0 stores 4 state killed slot - q - round - flags AAAA-")
     book.dump(_17=1, _22=0x9297)
     book.note("c > 0 outside power-up: 5, though the session is not Off")
     book.image(small())
     book.line("power 1", "answer 0")
     book.image(small(pending=1, work=[(28, 1)]))
-    book.frame(nak(), "answer 5 state arbitrate")
+    book.frame(nak(), "answer 5 state ready")
     book.line("ask", "answer 0 port held")
     book.line("read 0 1 2", "answer 5 port held reply 0")
     book.line("write 0 0001 9", "answer 5 port held stores 0")
@@ -282,51 +334,60 @@ def power_up(book):
     book.note("a refused power-up leaves Off")
     for image, answer in ((small().bytes()[:30], 1), (small().bytes()[:60], 2), (small(killed=2), 3)):
         book.image(small())
-        book.line("power 1", "answer 0 state arbitrate")
+        book.line("power 1", "answer 0 state ready")
         book.line("ask", "answer 0 port held")
         book.image(image)
-        book.frame(nak(), "answer %d state arbitrate port held" % answer)
-        book.line("read 0 1 2", "answer %d state arbitrate port held" % answer)
-        book.line("write 0 0000 9", "answer %d state arbitrate port held" % answer)
-        book.line("power 9", "answer %d stores 0 state off port free" % answer)
+        book.frame(nak(), "answer %d state ready port held" % answer)
+        book.line("read 0 1 2", "answer %d state ready port held" % answer)
+        book.line("write 0 0000 9", "answer %d state ready port held" % answer)
+        book.line("power 9", "answer %d stores 0 state off port free flags -" % answer)
 
 
 def session_and_nak(book):
-    book.title("admission, Req_RN and NAK in every state")
+    book.title("Req_RN and NAK in every state")
     image = small()
     book.image(image)
     book.frame(nak(), "answer 5 state off")
-    book.line("power 1", "answer 0 state arbitrate")
-    book.frame(nak(), "answer 0 stores 0 reply 0 state arbitrate", room=2)
-    book.note("Arbitrate: every other command is 9")
-    for name, bits in one_of_each(ADMISSION):
+    book.line("power 1", "answer 0 state ready")
+    book.note("Ready: NAK and every other command of the ten is 9")
+    book.frame(nak(), "answer 9 " + STANDING["ready"], room=2)
+    for name, bits in one_of_each(NUMBER):
         book.note(name)
-        book.frame(bits, "answer 9 state arbitrate reply 0")
-    book.line("admit 1234", "answer 0 state acknowledged number 1234 cover - half -")
-    book.line("admit 1234", "answer 9 state acknowledged number 1234")
+        book.frame(bits, "answer 9 reply 0 " + STANDING["ready"], room=6)
+    book.note("Arbitrate: NAK leaves the slot, every other is 9")
+    book.bring("arbitrate")
+    book.frame(nak(), "answer 0 stores 0 reply 0 " + STANDING["arbitrate"], room=2)
+    for name, bits in one_of_each(NUMBER):
+        book.note(name)
+        book.frame(bits, "answer 9 reply 0 " + STANDING["arbitrate"], room=6)
+    book.note("Reply: every other is 9, Req_RN with the number too; NAK leads to Arbitrate with slot 0")
+    book.bring("reply")
+    for name, bits in one_of_each(NUMBER):
+        book.note(name)
+        book.frame(bits, "answer 9 reply 0 " + STANDING["reply"], room=6)
+    book.frame(nak(), "answer 0 reply 0 state arbitrate number - slot 0 q 0 round s0 flags AAAA-", room=0)
+    book.find()
     book.note("Acknowledged: every other command but Req_RN is 9")
-    for name, bits in one_of_each(ADMISSION)[1:]:
+    for name, bits in one_of_each(NUMBER)[1:]:
         book.note(name)
         book.frame(bits, "answer 9 state acknowledged number 1234")
     book.frame(req_rn(0x1235), "answer 9 state acknowledged number 1234", fresh=HANDLE)
     book.note("a room of 3 bytes is too small for the new number and its CRC")
-    book.frame(req_rn(ADMISSION), "answer 4 state acknowledged number 1234 reply 0",
+    book.frame(req_rn(NUMBER), "answer 4 state acknowledged number 1234 reply 0",
                fresh=HANDLE, room=3)
-    book.frame(nak(), "answer 0 state arbitrate number -")
+    book.frame(nak(), "answer 0 state arbitrate number - slot 0 q 0 round s0 flags AAAA-")
     book.resume(image)
-    book.line("admit 1234", "answer 9 state secured number a5c3")
-    book.frame(req_rn(ADMISSION), "answer 9 state secured number a5c3 cover -", fresh=COVER)
+    book.frame(req_rn(NUMBER), "answer 9 state secured number a5c3 cover -", fresh=COVER)
     book.cover()
     book.cover(COVER2)
     book.frame(req_rn(HANDLE), "answer 4 cover 7b2d", fresh=COVER, room=3)
-    book.frame(req_rn(HANDLE), "answer 0 cover 0000", fresh=0, room=4, s=0)
-    book.frame(nak(), "answer 0 state arbitrate number - cover - half -", room=0, s=0)
+    book.frame(req_rn(HANDLE), "answer 0 cover 0000 slot - q 0 round s0 flags AAAA-", fresh=0, room=4, s=0)
+    book.frame(nak(), "answer 0 state arbitrate number - cover - half - slot 0 q 0 round s0 flags AAAA-", room=0, s=0)
     book.note("Open, when one word of the access password is not zero")
     for reserved in ([0, 0, 1, 0], [0, 0, 0, 1]):
         book.begin(small(reserved=reserved))
-        book.line("admit 1234", "answer 9 state open")
         book.cover()
-        book.frame(nak(), "answer 0 state arbitrate number - cover -")
+        book.frame(nak(), "answer 0 state arbitrate number - cover - slot 0 q 0 round s0")
 
 
 def malformed(book):
@@ -418,6 +479,497 @@ def out_of_place(book):
     book.frame(block_permalock(BANK_TID, 9, HANDLE, count=1), "answer 9 state open cover 0f1e")
 
 
+def inventory_refused(book):
+    book.title("the inventory's five commands: 1, 2, 3, 5, 6, 7, 8 and 9 in every state, and nothing changes")
+    for state, standing in STANDING.items():
+        book.note(state)
+        book.bring(state)
+        refused_for_image(book, state, standing)
+        book.image(STARTS[state])
+        refused_for_frame(book, state, standing)
+        if state not in ("open", "secured"):
+            book.line("ask", "answer 0 port held " + standing)
+            for name, bits in inventory(number_in(state)):
+                book.frame(bits, "answer 6 reply 0 port held " + standing, room=8)
+            book.line("release", "answer 0 port free " + standing)
+    book.note("off: 5, on a good image")
+    book.image(small())
+    off = "state off number - slot - q - round - flags -"
+    book.line("power 0", "answer 11 " + off)
+    for name, bits in inventory(NUMBER):
+        book.frame(bits, "answer 5 reply 0 " + off, room=8)
+    refused_for_image(book, "off", off)
+
+
+# The five on images that are none, and on one with a word pending.
+def refused_for_image(book, state, standing):
+    for image, answer in ((b"", 1), (bytes(32), 2), (small(lock=0x400), 3),
+                          (small(pending=1, work=[(28, 1)]), 5)):
+        book.image(image)
+        for name, bits in inventory(number_in(state)):
+            book.frame(bits, "answer %d reply 0 %s" % (answer, standing), room=8)
+
+
+# The five a bit short and a bit long, with a wrong CRC, and where they are ignored.
+def refused_for_frame(book, state, standing):
+    for name, bits in inventory(number_in(state)):
+        for wrong in (bits[:-1], bits + "0"):
+            book.frame(wrong, "answer 7 reply 0 " + standing, room=8)
+    for bits in (query(0), select(0, 0, BANK_EPC, 16, "0001")):
+        for place in (-1, -5, -6, 9):
+            book.frame(flipped(bits, place), "answer 8 reply 0 " + standing, room=8)
+    for bits in ignored_in(state):
+        book.frame(bits, "answer 9 reply 0 " + standing, room=8)
+
+
+# Frames of the inventory that a tag ignores in this state, the round's session S0.
+def ignored_in(state):
+    number = number_in(state)
+    if state == "killed":
+        return [bits for _, bits in inventory(number)] + [query(0, target=1), ack(0)]
+    frames = [select(target, 0, BANK_EPC, 16, "0001") for target in (5, 6, 7)]
+    frames += [select(0, 0, BANK_RESERVED, 0, ""), select(TARGET_SL, 0, BANK_EPC, 16, "0001", truncate=1),
+               select(0, 0, BANK_EPC, 16, "", truncate=1)]
+    if state in IN_ROUND:
+        frames += [bits for session in (1, 2, 3) for bits in (query_adjust(session, STAY), query_rep(session))]
+        frames += [query_adjust(0, updn) for updn in (0b001, 0b010, 0b100, 0b101, 0b111)]
+    else:
+        frames += [bits for session in range(4) for bits in (query_adjust(session, UP), query_rep(session))]
+    if state in ("ready", "arbitrate"):
+        frames += [ack(number), ack(0)]
+    return frames
+
+
+def inventory_malformed(book):
+    book.title("frames from 0 to 9 bits, Query's CRC-5, Select cut anywhere: 7 and 8")
+    book.bring("arbitrate")
+    stays = STANDING["arbitrate"]
+    book.note("0 to 3 bits, whatever they are")
+    for bits in ("", "0", "1", "00", "01", "10", "11", "000", "001", "010", "011", "100", "101", "110", "111"):
+        book.frame(bits, "answer 7 " + stays, room=2)
+    book.note("4 bits that begin something else than QueryRep")
+    for k in range(4, 16):
+        book.frame(field_bits(k, 4), "answer 7 " + stays, room=2)
+    book.note("5 to 9 bits: QueryRep too long, QueryAdjust too short and whole, what begins no code")
+    for size in range(5, 10):
+        book.frame(query_rep(0).ljust(size, "0"), "answer 7 " + stays, room=2)
+        book.frame("01".ljust(size, "1"), "answer 7 " + stays, room=2)
+        book.frame("1011".ljust(size, "0"), "answer 7 " + stays, room=2)
+        book.frame("1110".ljust(size, "0"), "answer 7 " + stays, room=2)
+    for size in range(4, 9):
+        book.frame(query_adjust(0, STAY)[:size], "answer 7 " + stays, room=2)
+    book.frame(query_adjust(0, STAY) + "0", "answer 7 " + stays, room=2)
+    book.note("a bit count beyond the bytes lent")
+    book.frame(query_rep(0), "answer 7 " + stays, room=2, data=b"")
+    book.frame(query_rep(0), "answer 7 " + stays, room=2, count=9)
+    book.frame(query_adjust(0, STAY), "answer 7 " + stays, room=2, data=b"\x90")
+    book.frame(query(0), "answer 7 " + stays, room=2, data=pack(query(0))[:2])
+    book.frame(ack(NUMBER), "answer 7 " + stays, room=2, count=25)
+    book.note("ACK of 17 and 19 bits, Query of 21 and 23")
+    for bits in (ack(NUMBER)[:17], ack(NUMBER) + "0", query(0)[:21], query(0) + "0"):
+        book.frame(bits, "answer 7 " + stays, room=2)
+    book.note("Query: every bit behind the code turned over is 8, one of the code is 7")
+    for place in range(22):
+        book.frame(flipped(query(5, 2, 1, 3), place), "answer %d %s" % (7 if place < 4 else 8, stays), room=2)
+    book.note("a CRC-5 that is complemented, and one of another preset")
+    right = query(0)
+    book.frame(right[:17] + field_bits(crc5(right[:17]) ^ 31, 5), "answer 8 " + stays, room=2)
+    book.frame(right[:17] + "00000", "answer 8 " + stays, room=2)
+    book.note("Select: a pointer of 21 bits, Length 255, cut at every bit and one too long")
+    longest = select(TARGET_SL, 0, BANK_USER, 0x1FFFFF, 255 * "1")
+    for size in range(4, len(longest)):
+        book.frame(longest[:size], "answer 7 " + stays, room=2)
+    book.frame(longest + "0", "answer 7 " + stays, room=2)
+    for place in (4, 10, 13, 36, 43, 44, 298, 299, 300, 315):
+        book.frame(flipped(longest, place), "answer %d %s" % (7 if place in (36, 43) else 8, stays), room=2)
+    book.note("a fourth pointer byte; a length that is not the mask's")
+    book.frame(select(0, 0, BANK_EPC, 16, "0001", e=4), "answer 7 " + stays, room=2)
+    book.frame(sealed("1010" + "000" + "000" + "01" + ebv(16) + field_bits(5, 8) + "0001" + "0"),
+               "answer 7 " + stays, room=2)
+    book.frame(sealed("1010" + "000" + "000" + "01" + ebv(16) + field_bits(3, 8) + "0001" + "0"),
+               "answer 7 " + stays, room=2)
+    book.note("7 stands before 8, 8 before 9")
+    book.frame(flipped(query(0), -1) + "0", "answer 7 " + stays, room=2)
+    book.frame(flipped(select(7, 0, BANK_RESERVED, 0, "", truncate=1), -1), "answer 8 " + stays, room=2)
+    book.note("the bits of the last byte past the bit count mean nothing")
+    for fill in "01":
+        book.frame(query_adjust(0, 0b001), "answer 9 " + stays, room=2, data=pack(query_adjust(0, 0b001), fill))
+    book.frame(query_rep(0), "answer 0 slot 4", room=2, data=b"\x0f")
+    book.frame(query_rep(0), "answer 0 slot 3", room=2, data=b"\x00\xff")
+    book.frame(query_adjust(0, STAY), "answer 0 slot 9 q 4", fresh=9, room=2, data=b"\x90\x7f")
+    book.note("the whole Select: it reaches past USER's end and does not match")
+    book.frame(longest, "answer 0 state ready flags AAAA-", room=0)
+
+
+def querying(book):
+    book.title("Query in every state")
+    for state in ("ready", "arbitrate", "reply") + FOUND:
+        found = state in FOUND
+        book.note(state + ": another session than the round's, S1; no flag moves")
+        book.bring(state)
+        book.frame(query(0, 1), "answer 4 reply 0 " + STANDING[state], fresh=0xBEEF, room=1)
+        book.frame(query(0, 1), "answer 0 whole beef state reply number beef cover - half - slot - q 0 round s1 "
+                   "flags AAAA-", fresh=0xBEEF, room=2)
+        book.bring(state)
+        book.frame(query(3, 1), "answer 0 reply 0 state arbitrate number - cover - half - slot 7 q 3 round s1 "
+                   "flags AAAA-", fresh=0xBEEF, room=0)
+        book.bring(state)
+        book.frame(query(3, 1, 1), "answer 0 reply 0 state ready number - cover - half - slot - q - round - "
+                   "flags AAAA-", fresh=0xBEE8, room=0)
+        book.note(state + ": the round's session, S0" + (", whose flag is inverted first" if found else ""))
+        flags = "BAAA-" if found else "AAAA-"
+        for target in (0, 1):
+            book.bring(state)
+            if (target == 1) == found:
+                book.frame(query(0, 0, target), "answer 4 reply 0 " + STANDING[state], fresh=0xBEEF, room=1)
+                book.frame(query(0, 0, target), "answer 0 whole beef state reply number beef cover - half - slot - "
+                           "q 0 round s0 flags " + flags, fresh=0xBEEF, room=2)
+            else:
+                book.frame(query(0, 0, target), "answer 0 reply 0 state ready number - cover - half - slot - q - "
+                           "round - flags " + flags, fresh=0xBEEF, room=0)
+    book.note("the flag inverted and back: a tag of session S2 in B")
+    book.bring("ready")
+    book.frame(query(0, 2), "answer 0 state reply round s2 flags AAAA-", fresh=NUMBER, room=2)
+    book.frame(ack(NUMBER), "answer 0 state acknowledged", room=8)
+    book.frame(query(0, 2, 1), "answer 0 whole 4321 state reply number 4321 flags AABA-", fresh=0x4321, room=2)
+    book.frame(ack(0x4321), "answer 0 state acknowledged flags AABA-", room=8)
+    book.frame(query(15, 2, 1), "answer 0 state ready flags AAAA-", fresh=0x4321, room=2)
+    book.note("every Q: the slot is the low Q bits of the fresh word")
+    for q in range(16):
+        book.frame(query(q, 3), "answer 0 reply 0 state arbitrate slot %d q %d round s3" % ((1 << q) - 1, q)
+                   if q else "answer 0 whole ffff state reply number ffff q 0 round s3", fresh=0xFFFF, room=2)
+        fresh = 0xFFFF << q & 0xFFFF
+        book.frame(query(q, 3), "answer 0 whole %04x state reply number %04x slot - q %d round s3" % (fresh, fresh, q),
+                   fresh=fresh, room=3)
+        if q:
+            book.frame(query(q, 3), "answer 0 reply 0 state arbitrate slot %d q %d" % (1 << q - 1, q),
+                       fresh=1 << q - 1, room=2)
+    book.frame(query(15, 3), "answer 0 whole 8000 state reply number 8000 q 15", fresh=0x8000, room=2)
+    book.note("Sel, SL deasserted and then asserted: 00 and 01 all tags, 10 without SL, 11 with it")
+    for flags, action, answering in (("AAAA-", 0b100, (0, 1, 2)), ("AAAAS", 0b000, (0, 1, 3))):
+        book.frame(select(TARGET_SL, action, BANK_EPC, 0, ""), "answer 0 state ready flags " + flags, room=0)
+        for sel in range(4):
+            book.frame(query(0, 1, 0, sel), ("answer 0 whole 7777 state reply flags " if sel in answering
+                                             else "answer 0 reply 0 state ready flags ") + flags, fresh=0x7777, room=2)
+            book.frame(query(0, 1, 1, sel), "answer 0 reply 0 state ready flags " + flags, fresh=0x7777, room=2)
+    book.note("DR, M and TRext mean nothing")
+    for link in range(16):
+        book.frame(query(1, 1, link=link), "answer 0 reply 0 state arbitrate slot 1 q 1 round s1", fresh=1, room=0)
+    book.note("in Ready a Query that does not match leaves Ready")
+    book.bring("ready")
+    for session in range(4):
+        book.frame(query(0, session, 1), "answer 0 reply 0 " + STANDING["ready"], fresh=NUMBER, room=0)
+    book.frame(query(0, sel=3), "answer 0 reply 0 " + STANDING["ready"], fresh=NUMBER, room=0)
+    book.note("a session is lost with power, the flags too")
+    book.bring("secured")
+    book.frame(query(4, 0, 1), "answer 0 state arbitrate slot 5 flags BAAA-", fresh=5, room=0)
+    book.line("power 1", "answer 0 state ready slot - q - round - flags AAAA-")
+
+
+def adjusting(book):
+    book.title("QueryAdjust")
+    for state in ("arbitrate", "reply"):
+        start = 4 if state == "arbitrate" else 0
+        for updn, q in ((UP, start + 1), (STAY, start), (DOWN, max(0, start - 1))):
+            book.note("%s: UpDn %s" % (state, field_bits(updn, 3)))
+            book.bring(state)
+            fresh = 0xFFFF << q & 0xFFFF
+            book.frame(query_adjust(0, updn), "answer 4 reply 0 " + STANDING[state], fresh=fresh, room=1)
+            book.frame(query_adjust(0, updn), "answer 0 whole %04x state reply number %04x slot - q %d round s0 "
+                       "flags AAAA-" % (fresh, fresh, q), fresh=fresh, room=2)
+            book.bring(state)
+            book.frame(query_adjust(0, updn), "answer 0 reply 0 state arbitrate number - slot %d q %d round s0 "
+                       "flags AAAA-" % ((1 << q) - 1, q) if q else "answer 0 whole ffff state reply q 0",
+                       fresh=0xFFFF, room=2)
+    book.note("15 stays 15, 0 stays 0")
+    book.bring("ready")
+    book.frame(query(14, 1), "answer 0 slot 3 q 14 round s1", fresh=3, room=2)
+    for slot in (0x7FFF, 0x7FFE):
+        book.frame(query_adjust(1, UP), "answer 0 slot %d q 15 round s1" % slot, fresh=0x8000 | slot, room=2)
+    book.frame(query_adjust(1, UP), "answer 0 whole 8000 state reply q 15", fresh=0x8000, room=2)
+    book.frame(query(1, 1), "answer 0 slot 1 q 1", fresh=1, room=2)
+    for _ in range(2):
+        book.frame(query_adjust(1, DOWN), "answer 0 whole ffff state reply q 0", fresh=0xFFFF, room=2)
+    book.frame(query_adjust(1, UP), "answer 0 reply 0 state arbitrate slot 1 q 1", fresh=0xFFFF, room=2)
+    for state in FOUND:
+        for updn in (UP, STAY, DOWN):
+            book.note("%s: done with, whatever the fresh word; no room is asked for" % state)
+            book.bring(state)
+            book.frame(query_adjust(0, updn), "answer 0 reply 0 state ready number - cover - half - slot - q - "
+                       "round - flags BAAA-", fresh=0, room=0)
+    book.note("each session's flag, from A to B and back")
+    for session in range(4):
+        book.bring("ready")
+        for flags in ("AAAA", "AAAA"[:session] + "B" + "AAA"[session:]):
+            target = int(flags != "AAAA")
+            after = "AAAA" if target else "AAAA"[:session] + "B" + "AAA"[session:]
+            book.frame(query(0, session, target), "answer 0 state reply flags %s-" % flags, fresh=NUMBER, room=2)
+            book.frame(ack(NUMBER), "answer 0 state acknowledged", room=8)
+            book.frame(query_adjust(session, STAY), "answer 0 state ready flags %s-" % after, room=2)
+
+
+def repeating(book):
+    book.title("QueryRep")
+    book.bring("arbitrate")
+    for slot in (4, 3, 2, 1):
+        book.frame(query_rep(0), "answer 0 reply 0 state arbitrate slot %d q 4 round s0 flags AAAA-" % slot,
+                   fresh=0, room=0)
+    book.note("the slot comes to 0: a reply, if it has room")
+    book.frame(query_rep(0), "answer 4 reply 0 state arbitrate number - slot 1 q 4", fresh=0xBEEF, room=1)
+    book.frame(query_rep(0), "answer 0 whole beef state reply number beef slot - q 4 round s0 flags AAAA-",
+               fresh=0xBEEF, room=2)
+    book.note("from Reply: slot 7fffh, which counts on")
+    book.frame(query_rep(0), "answer 0 reply 0 state arbitrate number - slot 32767 q 4 round s0", fresh=0, room=0)
+    book.frame(query_rep(0), "answer 0 reply 0 state arbitrate slot 32766", fresh=0, room=0)
+    book.note("Arbitrate with slot 0, after a NAK, a wrong ACK and a wrong password: 7fffh too")
+    for way in ("NAK", "ACK", "Access"):
+        book.begin(guarded())
+        if way == "Access":
+            book.cover()
+            book.frame(access(0, COVER, HANDLE), "answer 0 half access:0000")
+            book.cover(COVER2, "access:0000")
+            book.frame(access(0, COVER2, HANDLE), "answer 12 state arbitrate slot 0 q 0 round s0 flags AAAA-")
+        else:
+            book.frame(nak() if way == "NAK" else ack(WRONG),
+                       "answer 0 reply 0 state arbitrate slot 0 q 0 round s0 flags AAAA-", room=0)
+        book.frame(query_rep(0), "answer 0 reply 0 state arbitrate slot 32767 q 0 round s0 flags AAAA-",
+                   fresh=0, room=0)
+    book.note("NAK in Arbitrate leaves the slot")
+    book.frame(nak(), "answer 0 reply 0 state arbitrate slot 32767 q 0 round s0", room=0)
+    for state in FOUND:
+        book.note("%s: done with" % state)
+        book.bring(state)
+        book.frame(query_rep(0), "answer 0 reply 0 state ready number - cover - half - slot - q - round - "
+                   "flags BAAA-", fresh=0, room=0)
+    book.note("a tag of S3 that was found hears the round's QueryRep alone, and no more of it afterwards")
+    book.bring("ready")
+    book.frame(query(0, 3), "answer 0 state reply round s3", fresh=NUMBER, room=2)
+    book.frame(ack(NUMBER), "answer 0 state acknowledged", room=8)
+    book.frame(query_rep(2), "answer 9 state acknowledged round s3 flags AAAA-", room=0)
+    book.frame(query_rep(3), "answer 0 state ready flags AAAB-", room=0)
+    book.frame(query_rep(3), "answer 9 state ready flags AAAB-", room=0)
+    book.frame(query(0, 3), "answer 0 reply 0 state ready flags AAAB-", fresh=NUMBER, room=2)
+    book.frame(query(0, 3, 1), "answer 0 reply 16 state reply flags AAAB-", fresh=NUMBER, room=2)
+
+
+def acknowledging(book):
+    book.title("ACK")
+    whole = "whole 1000,3034,0257,9297"
+    for state, after in (("reply", "acknowledged"),) + tuple((state, state) for state in FOUND):
+        number = number_in(state)
+        book.note(state + ": with its number, in a room too small and in one that fits; then with another")
+        book.bring(state)
+        book.frame(ack(number), "answer 4 reply 0 " + STANDING[state], room=7)
+        for _ in range(2):
+            book.frame(ack(number), "answer 0 stores 0 reply 64 %s %s" % (
+                whole, STANDING[after]), fresh=0xBEEF, room=8, s=0)
+        for wrong in (number ^ 1, number ^ 0x8000, 0):
+            book.bring(state)
+            book.frame(ack(wrong), "answer 0 stores 0 reply 0 state arbitrate number - cover - half - slot 0 q 0 "
+                       "round s0 flags AAAA-", fresh=0xBEEF, room=0)
+    book.note("the number replied is none any more where there is a handle")
+    book.bring("secured")
+    book.frame(ack(NUMBER), "answer 0 reply 0 state arbitrate number - slot 0", room=8)
+    book.note("answered 0 with the handle it uses up the cover number, refused it does not")
+    for state in ("open", "secured"):
+        book.bring(state)
+        book.cover()
+        book.frame(ack(HANDLE), "answer 4 reply 0 cover 0f1e state " + state, room=7)
+        book.frame(ack(HANDLE), "answer 0 %s cover - state %s number a5c3" % (whole, state), room=8)
+        book.frame(write(BANK_USER, 0, 1, COVER, HANDLE), "answer 9 state " + state)
+    book.note("L from 0 to the bank's size")
+    words = [0x1111 * k & 0xFFFF for k in range(31)]
+    for count, length in ((2, 0), (4, 0), (4, 1), (4, 2), (33, 0), (33, 17), (33, 30), (33, 31)):
+        pc = length << 11 | 0x2A5
+        sent = [pc] + words[:length]
+        check = crc("".join(field_bits(w, 16) for w in sent))
+        book.image(small(epc=[0, pc] + words[:count - 2]))
+        book.line("power 1", "answer 0")
+        book.frame(query(0), "answer 0 state reply", fresh=NUMBER, room=2)
+        book.frame(ack(NUMBER), "answer 4 reply 0 state reply number 1234", room=2 * length + 3)
+        book.frame(ack(NUMBER), "answer 0 reply %d whole %s state acknowledged" % (
+            16 * (length + 2), ",".join("%04x" % w for w in sent + [check])), room=2 * length + 4)
+    book.note("a new PC and a new EPC word: the CRC-16 is computed, while the stored one is stale")
+    book.begin(small())
+    book.write(BANK_EPC, 1, 0x0FFF, "answer 0 stores 5")
+    book.frame(ack(HANDLE), "answer 0 whole 0fff,3034,%04x state secured" % crc(field_bits(0x0FFF3034, 32)), room=6)
+    book.write(BANK_EPC, 2, 0xCAFE, "answer 0 stores 5")
+    book.frame(ack(HANDLE), "answer 0 whole 0fff,cafe,%04x" % crc(field_bits(0x0FFFCAFE, 32)), room=6)
+    book.write(BANK_EPC, 1, 0x0000, "answer 0 stores 5")
+    book.frame(ack(HANDLE), "answer 0 whole 0000,e2f0", room=4)
+    book.write(BANK_EPC, 1, 0x1000, "answer 0 stores 5")
+    book.frame(ack(HANDLE), "answer 0 whole 1000,cafe,0257,%04x" % crc(field_bits(0x1000CAFE0257, 48)), room=8)
+    book.dump(_22=0x9297, _23=0x1000, _24=0xCAFE)
+    book.note("the EPC is read whatever its lock pair, by radio's ACK")
+    book.bring("reply")
+    book.image(small(lock=0x3FF))
+    book.frame(ack(NUMBER), "answer 0 %s state acknowledged" % whole, room=8)
+
+
+# The bits of some words.
+def word_bits(words):
+    return "".join(field_bits(w, 16) for w in words)
+
+
+def selecting(book):
+    book.title("Select: actions, masks and banks")
+    image = small()
+    epc, tid, user = (word_bits(words) for words in (image.epc, image.tid, image.user))
+    match = select(TARGET_SL, 0, BANK_EPC, 16, epc[16:64])
+    for state in ("ready", "arbitrate", "reply") + FOUND:
+        book.note(state + ": Ready, whatever the room")
+        book.bring(state)
+        book.frame(match, "answer 0 stores 0 reply 0 state ready number - cover - half - slot - q - round - "
+                   "flags AAAAS", fresh=0xBEEF, room=0, s=0)
+    every_action(book)
+    book.note("masks on the EPC bank: from its word 0 on, bit by bit")
+    book.bring("ready")
+
+    # A Select that asserts SL where the mask matches and deasserts it where not.
+    def tried(bank, pointer, mask, matching, e=1):
+        book.frame(select(TARGET_SL, 0, bank, pointer, mask, e=e),
+                   "answer 0 reply 0 state ready flags AAAA" + ("S" if matching else "-"), room=0)
+
+    tried(BANK_EPC, 0, epc, True)
+    for place in (0, 15, 16, 33, 63):
+        tried(BANK_EPC, 0, flipped(epc, place), False)
+    for pointer, size in ((0, 1), (1, 7), (15, 2), (32, 32), (33, 31), (63, 1), (5, 50)):
+        tried(BANK_EPC, pointer, epc[pointer:pointer + size], True)
+        tried(BANK_EPC, pointer, flipped(epc[pointer:pointer + size], -1), False)
+        tried(BANK_EPC, pointer, flipped(epc[pointer:pointer + size], 0), False)
+    for bank, bits in ((BANK_EPC, epc), (BANK_TID, tid), (BANK_USER, user)):
+        size = len(bits)
+        book.note("bank %d, %d bits: at its end and past it, with the bits that follow and with zeros" % (bank, size))
+        tried(bank, size - 8, bits[-8:], True)
+        follow = word_bits(image.words())[16 * image.place(bank + 1):]
+        for length in (9, 16):
+            tried(bank, size - 8, follow[size - 8:size - 8 + length], False)
+            tried(bank, size - 8, bits[-8:].ljust(length, "0"), False)
+        tried(bank, size - 1, bits[-1:], True)
+        tried(bank, size, follow[size:size + 1], False)
+        tried(bank, size, "0", False)
+        tried(bank, size + 1, "0", False)
+        book.note("a mask of no bits below, at and beyond the end")
+        for pointer in (0, 1, size - 1):
+            tried(bank, pointer, "", True)
+        for pointer in (size, size + 1, size + 16, 0x1FFFFF):
+            tried(bank, pointer, "", False)
+    book.note("pointers of one, two and three bytes")
+    for e in (1, 2, 3):
+        tried(BANK_EPC, 16, epc[16:20], True, e)
+        tried(BANK_USER, 100, user[100:140], True, e)
+        tried(BANK_USER, 100, flipped(user[100:140], 20), False, e)
+    tried(BANK_USER, 0, user[:255], True)
+    tried(BANK_USER, 1, user[1:256], True)
+    tried(BANK_USER, 1, flipped(user[1:256], 254), False)
+    tried(BANK_USER, 2, user[2:] + "0", False)
+    book.note("banks of no words, and the RESERVED bank, which is 9")
+    book.image(small(tid=[], user=[], perma=[]))
+    for bank in (BANK_TID, BANK_USER):
+        tried(bank, 0, "", False)
+        tried(bank, 0, "0", False)
+    book.frame(select(TARGET_SL, 0, BANK_RESERVED, 0, ""), "answer 9 state ready flags AAAA-", room=0)
+    book.note("a USER bank of 4096 words: its last bits by a pointer of three bytes; locks do not matter")
+    book.image(small(block_size=16, lock=0x3FF, user=4095 * [0] + [0x8001], perma=16 * [0xFFFF]))
+    tried(BANK_USER, 65535, "1", True)
+    tried(BANK_USER, 65520, "1000000000000001", True)
+    tried(BANK_USER, 65520, "10000000000000010", False)
+    tried(BANK_USER, 65535, "", True)
+    tried(BANK_USER, 65536, "", False)
+    tried(BANK_USER, 65281, 239 * "0" + "1000000000000001", True)
+    tried(BANK_USER, 65281, 240 * "0" + "000000000000001", False)
+    book.note("the stored CRC is a part of the EPC bank: what power-up stored, stale or not")
+    book.begin(small())
+    book.write(BANK_EPC, 1, 0x0800, "answer 0 stores 5")
+    tried(BANK_EPC, 0, word_bits([0x9297, 0x0800]), True)
+    book.line("power 1", "answer 0 state ready flags AAAA-")
+    tried(BANK_EPC, 0, word_bits([0x9297, 0x0800]), False)
+    tried(BANK_EPC, 0, word_bits([crc(field_bits(0x08003034, 32)), 0x0800]), True)
+
+
+# All eight actions on each of the five flags, matching and not, the flag set and not before.
+def every_action(book):
+    book.note("the actions: assert SL or A, deassert SL or B, or turn it over; matching, then not")
+    book.bring("ready")
+    hit, miss = "0001", "0000"          # the PC's first bits
+    flags = list("AAAA-")
+    for target in range(5):
+        is_set, is_clear = ("S", "-") if target == TARGET_SL else ("A", "B")
+        other = {is_set: is_clear, is_clear: is_set}
+        table = ((is_set, is_clear), (is_set, None), (None, is_clear), ("turn", None),
+                 (is_clear, is_set), (is_clear, None), (None, is_set), (None, "turn"))
+        for action, columns in enumerate(table):
+            for mask, does in zip((hit, miss), columns):
+                for before in (is_set, is_clear):
+                    flags[target] = before
+                    book.frame(select(target, 0 if before == is_set else 4, BANK_EPC, 16, hit),
+                               "answer 0 flags " + "".join(flags), room=0)
+                    flags[target] = {None: before, "turn": other[before]}.get(does, does)
+                    book.frame(select(target, action, BANK_EPC, 16, mask),
+                               "answer 0 state ready flags " + "".join(flags), room=0)
+        flags[target] = is_clear
+        book.frame(select(target, 4, BANK_EPC, 16, hit), "answer 0 flags " + "".join(flags), room=0)
+    book.note("what else moves no flag: NAK, a wrong ACK, a Write, a Kill; power does")
+    book.frame(query(0, 3, 1), "answer 0 state reply flags BBBB-", fresh=NUMBER, room=2)
+    book.frame(ack(0), "answer 0 state arbitrate slot 0 q 0 round s3 flags BBBB-", room=8)
+    book.frame(select(TARGET_SL, 0, BANK_EPC, 16, hit), "answer 0 state ready flags BBBBS", room=0)
+    book.frame(query(0, 3, 1, 3), "answer 0 state reply flags BBBBS", fresh=NUMBER, room=2)
+    book.frame(ack(NUMBER), "answer 0 state acknowledged flags BBBBS", room=8)
+    book.frame(nak(), "answer 0 state arbitrate slot 0 q 0 round s3 flags BBBBS", room=8)
+    book.frame(query(0, 3, 1, 3), "answer 0 state reply flags BBBBS", fresh=NUMBER, room=2)
+    book.frame(ack(NUMBER), "answer 0 state acknowledged flags BBBBS", room=8)
+    book.frame(req_rn(NUMBER), "answer 0 state secured round s3 flags BBBBS", fresh=HANDLE)
+    book.write(BANK_USER, 3, 1, "answer 0 stores 5 state secured round s3 flags BBBBS")
+    book.cover()
+    book.frame(kill(KILL_UPPER, COVER, HANDLE), "answer 0 half kill:4b49 flags BBBBS")
+    book.cover(COVER2, "kill:4b49")
+    book.frame(kill(KILL_LOWER, COVER2, HANDLE), "answer 0 state killed slot - q - round - flags BBBBS")
+    book.frame(select(0, 0, BANK_EPC, 16, hit), "answer 9 state killed flags BBBBS", room=0)
+    book.line("power 1", "answer 0 state killed flags AAAA-")
+
+
+def inventory_between_halves(book):
+    book.title("the inventory between two halves")
+    for state, image, code, upper in (("open", guarded(), access, ACCESS_UPPER), ("secured", small(), kill, KILL_UPPER),
+                                      ("open", guarded(), kill, KILL_UPPER), ("secured", small(), access, 0)):
+        kind = "access" if code is access else "kill"
+        half = "half %s:%04x" % (kind, upper)
+        for covered in (False, True):
+            book.note("%s, half of a password by %s, %s cover number" % (state, kind, "with a" if covered else "no"))
+
+            # A tag of this image between the halves.
+            def halfway():
+                book.begin(image)
+                book.cover()
+                book.frame(code(upper, COVER, HANDLE), "answer 0 " + half)
+                if covered:
+                    book.cover(COVER2, half[5:])
+
+            waiting = "state %s number a5c3 cover %s %s q 0 round s0 flags AAAA-" % (
+                state, "7b2d" if covered else "-", half)
+            gone = "number - cover - half - "
+            halfway()
+            refused_for_image(book, state, waiting)
+            book.image(image)
+            refused_for_frame(book, state, waiting)
+            book.frame(query(0, 1), "answer 4 reply 0 " + waiting, fresh=NUMBER, room=1)
+            for bits, expected in (
+                    (ack(HANDLE), "answer 12 reply 0 state arbitrate " + gone + "slot 0 q 0 round s0 flags AAAA-"),
+                    (ack(WRONG), "answer 0 reply 0 state arbitrate " + gone + "slot 0 q 0 round s0 flags AAAA-"),
+                    (query(0, 1), "answer 0 whole 1234 state reply number 1234 cover - half - slot - q 0 round s1 "
+                     "flags AAAA-"),
+                    (query(0, 0, 1), "answer 0 whole 1234 state reply number 1234 cover - half - slot - q 0 round s0 "
+                     "flags BAAA-"),
+                    (query(0), "answer 0 reply 0 state ready " + gone + "slot - q - round - flags BAAA-"),
+                    (query(4, 2), "answer 0 reply 0 state arbitrate " + gone + "slot 4 q 4 round s2 flags AAAA-"),
+                    (query_adjust(0, UP), "answer 0 reply 0 state ready " + gone + "slot - q - round - flags BAAA-"),
+                    (query_rep(0), "answer 0 reply 0 state ready " + gone + "slot - q - round - flags BAAA-"),
+                    (select(1, 4, BANK_EPC, 0, ""), "answer 0 reply 0 state ready " + gone
+                     + "slot - q - round - flags ABAA-")):
+                halfway()
+                book.frame(bits, expected, fresh=NUMBER, room=2)
+
+
 def reading(book):
     book.title("Read: 0, 03h, 04h, 4")
     image = small(reserved=[KILL_UPPER, KILL_LOWER, 0, 0])
@@ -495,7 +1047,7 @@ def writing(book):
         book.write(BANK_USER, 3, 0xABCD, "answer 11 stores %d reply 0 state off number - cover - half -" % s, s=s)
         book.frame(nak(), "answer 5")
         book.dump(_31=0xABCD if s > 3 else 10, _45=1 if s > 2 else 0)
-        book.line("power 9", "answer 0 stores %d state arbitrate" % (3 if s > 2 else 1))
+        book.line("power 9", "answer 0 stores %d state ready" % (3 if s > 2 else 1))
         book.dump(_31=0xABCD if s > 2 else 10, _45=0)
     book.note("room before power: 4 with no store")
     book.begin(image)
@@ -559,7 +1111,8 @@ def accessing(book):
         book.frame(access(upper, COVER, HANDLE), "answer 0 half access:%04x" % upper)
         book.cover(COVER2, "access:%04x" % upper)
         book.frame(access(lower, COVER2, HANDLE),
-                   "answer 12 stores 0 reply 0 state arbitrate number - cover - half -", room=0)
+                   "answer 12 stores 0 reply 0 state arbitrate number - cover - half - "
+                   "slot 0 q 0 round s0 flags AAAA-", room=0)
     book.note("between the halves")
     book.begin(image)
     book.cover()
@@ -577,7 +1130,6 @@ def accessing(book):
     book.frame(block_permalock(BANK_USER, 0, HANDLE, count=1, rfu=1), "answer 9 " + waiting)
     book.frame(nak() + "1", "answer 7 " + waiting)
     book.frame(flipped(req_rn(HANDLE), -1), "answer 8 " + waiting)
-    book.line("admit 1234", "answer 9 " + waiting)
     book.line("ask", "answer 6 " + waiting)
     book.cover(COVER, "access:acce")
     book.cover(COVER2, "access:acce")
@@ -612,7 +1164,7 @@ def accessing(book):
 def killing(book):
     book.title("Kill")
     image = small()
-    lost = "state arbitrate number - cover - half -"
+    lost = "state arbitrate number - cover - half - slot 0 q 0 round s0 flags AAAA-"
     book.note("zero kill password: 00h, once more after a 4")
     book.begin(small(reserved=[0, 0, 0, 0]))
     book.cover()
@@ -623,7 +1175,8 @@ def killing(book):
     book.cover()
     book.frame(kill(0, COVER, HANDLE, spare=5), "answer 0 reply 32 half kill:0000")
     book.cover(COVER2, "kill:0000")
-    book.frame(kill(1, COVER2, HANDLE, spare=2), "answer 0 stores 5 reply 33 state killed number - cover - half -")
+    book.frame(kill(1, COVER2, HANDLE, spare=2), "answer 0 stores 5 reply 33 state killed number - cover - half - "
+               "slot - q - round - flags AAAA-")
     book.dump(_17=1)
     book.note("wrong halves")
     for upper, lower in ((KILL_UPPER ^ 0x10, KILL_LOWER), (KILL_UPPER, KILL_LOWER ^ 1)):
@@ -655,7 +1208,7 @@ def killing(book):
         book.frame(kill(KILL_LOWER, COVER2, HANDLE), "answer 4 half kill:4b49 cover 7b2d stores 0", s=s, room=4)
         book.frame(kill(KILL_LOWER, COVER2, HANDLE),
                    "answer 11 stores %d state off" % s if s < 5 else "answer 0 stores 5 state killed", s=s, room=5)
-        book.line("power 9", "answer 0 state " + ("killed" if s > 2 else "arbitrate"))
+        book.line("power 9", "answer 0 state " + ("killed" if s > 2 else "ready"))
 
 
 def locking(book):
@@ -806,7 +1359,7 @@ def block_erasing(book):
     book.frame(block_erase(BANK_EPC, 0, 1, HANDLE), "answer 10 code 04")
     book.frame(block_erase(BANK_EPC, 1, 3, HANDLE), "answer 0 stores 11")
     book.note("an erased PC has L = 0; the CRC at power-up covers it alone")
-    book.line("power 1", "answer 0 state arbitrate")
+    book.line("power 1", "answer 0 state ready")
     book.dump(_22=crc(16 * "0"), _23=0)
     book.begin(small())
     book.frame(block_erase(BANK_TID, 0, 2, HANDLE), "answer 10 code 04")
@@ -888,9 +1441,8 @@ def spi_port(book):
     for call in ("release", "register", "read 0 1 2", "write 0 0000 9"):
         book.line(call, "answer 6 port free reply 0")
     book.line("read 0 0 0", "answer 6")
-    book.line("ask", "answer 0 port held state arbitrate register 0")
+    book.line("ask", "answer 0 port held state ready register 0")
     book.line("ask", "answer 6 port held")
-    book.line("admit 1234", "answer 6 state arbitrate port held")
     book.frame(nak(), "answer 6 port held")
     book.frame("", "answer 6 port held")
     book.note("reads")
@@ -939,15 +1491,14 @@ def spi_port(book):
     book.line("write 4 0001 5", "answer 0 stores 5 register 2")
     book.line("release", "answer 0 port free register 2")
     book.line("register", "answer 6 register 2")
-    book.line("admit 1234", "answer 0 state acknowledged register 2")
+    book.find()
     book.line("ask", "answer 0 state acknowledged number 1234 port held register 2")
-    book.frame(req_rn(ADMISSION), "answer 6 state acknowledged number 1234", fresh=HANDLE)
-    book.line("admit 1234", "answer 6 state acknowledged number 1234")
+    book.frame(req_rn(NUMBER), "answer 6 state acknowledged number 1234", fresh=HANDLE)
     book.line("register", "answer 0 value 2 register 0 state acknowledged")
     book.line("register", "answer 0 value 0 register 0")
     book.line("write 0 0001 0", "answer 0 stores 0 register 2")
     book.line("release", "answer 0 state acknowledged number 1234 port free")
-    book.frame(req_rn(ADMISSION), "answer 0 state secured register 2", fresh=HANDLE)
+    book.frame(req_rn(NUMBER), "answer 0 state secured register 2", fresh=HANDLE)
     book.line("ask", "answer 6 state secured port free")
     book.frame(nak(), "answer 0 state arbitrate register 2")
     book.line("power 1", "answer 0 register 0")
@@ -992,7 +1543,6 @@ def killed_tag(book):
     book.title("a killed tag")
     book.image(small(killed=1))
     book.line("power 1", "answer 0 stores 1 state killed")
-    book.line("admit 1234", "answer 9 state killed number -")
     book.frame(nak(), "answer 9 state killed")
     for name, bits in one_of_each(0):
         book.frame(bits, "answer 9 state killed")
@@ -1081,7 +1631,9 @@ def whole_list():
     book.note("A command list through the rules of the tag, on the worked image of 78 words.")
     book.note("A line '#>' says what the next line must bring; makelist.py tells its parts.")
     for part in (before_any_image, bad_lines, image_check_header, image_check_content, power_up,
-                 session_and_nak, malformed, out_of_place, reading, writing, accessing, killing,
+                 session_and_nak, malformed, out_of_place, inventory_refused, inventory_malformed,
+                 querying, adjusting, repeating, acknowledging, selecting, inventory_between_halves,
+                 reading, writing, accessing, killing,
                  locking, block_writing, block_erasing, block_permalocking, spi_port, killed_tag,
                  image_changed):
         part(book)

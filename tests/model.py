@@ -274,12 +274,16 @@ def finish_pending(power, layout):
     power.store(layout.offset["WORK"], 0)
 
 
+# The bits of the PC and of the L words after it.
+def pc_and_epc(image, layout):
+    pc = section_word(image, layout, "EPC", 1)
+    return "".join(bits_of(section_word(image, layout, "EPC", 1 + k), 16)
+                   for k in range(1 + pc_length(pc)))
+
+
 # Power-up's second part: the CRC-16 over the PC and the L words after it.
 def store_epc_crc(power, layout):
-    epc = layout.offset["EPC"]
-    length = pc_length(word(power.image, epc + 1))
-    covered = "".join(bits_of(word(power.image, epc + 1 + k), 16) for k in range(1 + length))
-    power.store(epc, crc16(covered))
+    power.store(layout.offset["EPC"], crc16(pc_and_epc(power.image, layout)))
 
 
 # Power-up with s stores; answers 0, 1, 2, 3 and 11.
@@ -295,7 +299,7 @@ def power_up(image, s):
     except PowerLost:
         return Answer(11, OFF_SESSION, power.made)
     killed = section_word(image, layout, "STATUS", 1) == 1
-    return Answer(0, Session("killed" if killed else "arbitrate"), power.made)
+    return Answer(0, Session("killed" if killed else "ready", flags=Flags()), power.made)
 
 
 # A number as so many bits, the highest first.
@@ -347,23 +351,68 @@ def with_crc(bits):
     return bits + bits_of(crc16(bits), 16)
 
 
+# The CRC-5 of bits: generator x^5 + x^3 + 1, preset 01001b, not complemented.
+def crc5(bits):
+    register = 0b01001
+    for bit in bits:
+        feedback = register >> 4 ^ int(bit)
+        register = (register << 1 & 0b11111) ^ (0b01001 if feedback else 0)
+    return register
+
+
 # --------------------------------------------------------------------------
 # Session and frames: the session
 # --------------------------------------------------------------------------
 
 @dataclass(frozen=True)
+class Flags:
+    """The inventoried flags of S0 to S3, A or B each, and SL."""
+
+    inventoried: tuple = ("A", "A", "A", "A")
+    sl: bool = False
+
+    # With one inventoried flag set.
+    def with_inventoried(self, number, value):
+        return replace(self, inventoried=tuple(
+            value if k == number else old for k, old in enumerate(self.inventoried)))
+
+    # With one inventoried flag inverted: A to B and B to A.
+    def inverted(self, number):
+        return self.with_inventoried(number, "B" if self.inventoried[number] == "A" else "A")
+
+
+@dataclass(frozen=True)
+class Round:
+    """The inventory round: its session number, S0 to S3, and Q."""
+
+    session: int
+    q: int
+
+
+@dataclass(frozen=True)
 class Session:
-    """The session: state, number, cover, waiting half, port and register."""
+    """The session; what a state does not hold is None."""
 
     state: str
-    number: Optional[int] = None
+    number: Optional[int] = None        # the number replied, or the handle
     cover: Optional[int] = None
     half: Optional[tuple] = None        # (code of Access or Kill, upper word)
     held: bool = False
     register: int = 0
+    slot: Optional[int] = None          # written down in Arbitrate alone
+    round: Optional[Round] = None
+    flags: Optional[Flags] = None
+
+    # The slot counter of a tag in a round: 0 in Reply and in the states after it.
+    @property
+    def counter(self):
+        return self.slot if self.state == "arbitrate" else 0
 
 
 OFF_SESSION = Session("off")
+
+# The states after Reply, in which the tag is known by its number or its handle.
+FOUND = ("acknowledged", "open", "secured")
 
 
 @dataclass(frozen=True)
@@ -377,9 +426,16 @@ class Answer:
     value: Optional[int] = None
 
 
-# The session back in Arbitrate, which holds no number, cover or half.
+# The session in another state: port, register and flags stay, and all else is
+# what is given.
+def moved(session, state, **holds):
+    kept = {"held": session.held, "register": session.register, "flags": session.flags}
+    return Session(state, **{**kept, **holds})
+
+
+# The session back in Arbitrate: round and slot stay, number, cover and half go.
 def to_arbitrate(session):
-    return replace(session, state="arbitrate", number=None, cover=None, half=None)
+    return moved(session, "arbitrate", round=session.round, slot=session.counter)
 
 
 # The session with its cover number used up.
@@ -387,24 +443,31 @@ def cover_used(session):
     return replace(session, cover=None)
 
 
-# An admission with a 16-bit number; answers 0, 5, 6 and 9.
-def admit(session, number):
-    refuse(session.state == "off", 5)
-    refuse(session.held, 6)
-    refuse(session.state != "arbitrate", 9)
-    return Answer(0, replace(session, state="acknowledged", number=number))
-
-
 # --------------------------------------------------------------------------
 # Session and frames: the frame
 # --------------------------------------------------------------------------
 
+# The codes as bits; none begins with another.
+QUERY_REP, ACK, QUERY, QUERY_ADJUST, SELECT = "00", "01", "1000", "1001", "1010"
 NAK, REQ_RN, READ, WRITE, KILL, LOCK, ACCESS, BLOCK_WRITE, BLOCK_ERASE, BLOCK_PERMALOCK = \
-    range(0xC0, 0xCA)
+    (bits_of(code, 8) for code in range(0xC0, 0xCA))
 
-NAMES = {NAK: "NAK", REQ_RN: "Req_RN", READ: "Read", WRITE: "Write", KILL: "Kill",
+NAMES = {QUERY_REP: "QueryRep", ACK: "ACK", QUERY: "Query", QUERY_ADJUST: "QueryAdjust",
+         SELECT: "Select", NAK: "NAK", REQ_RN: "Req_RN", READ: "Read", WRITE: "Write", KILL: "Kill",
          LOCK: "Lock", ACCESS: "Access", BLOCK_WRITE: "BlockWrite",
          BLOCK_ERASE: "BlockErase", BLOCK_PERMALOCK: "BlockPermalock"}
+
+# The commands of the inventory.
+INVENTORY = (QUERY_REP, ACK, QUERY, QUERY_ADJUST, SELECT)
+
+# The commands that end with a number and a CRC-16.
+NUMBERED = (REQ_RN, READ, WRITE, KILL, LOCK, ACCESS, BLOCK_WRITE, BLOCK_ERASE, BLOCK_PERMALOCK)
+
+
+# The code that these bits begin with, or None.
+def code_of(bits):
+    return next((code for code in NAMES if bits.startswith(code)), None)
+
 
 # The banks by their two bits.
 BANKS = ("RESERVED", "EPC", "TID", "USER")
@@ -414,17 +477,24 @@ BANKS = ("RESERVED", "EPC", "TID", "USER")
 class Command:
     """A well-formed frame taken apart; a field that it lacks is None."""
 
-    code: int
-    number: Optional[int] = None        # admission number or handle
+    code: str
+    number: Optional[int] = None        # the number replied, or the handle
     bank: Optional[str] = None
-    pointer: Optional[int] = None
+    pointer: Optional[int] = None       # a word's place; Select's, a bit's
     count: Optional[int] = None         # WordCount or BlockRange
     words: tuple = ()                   # the data of Write and BlockWrite, the masks
     half: Optional[int] = None          # the half of a password, as sent
     mask: Optional[int] = None          # Lock's ten mask bits
-    action: Optional[int] = None        # Lock's ten action bits
+    action: Optional[int] = None        # Lock's ten action bits, Select's three
     rfu: int = 0
     locks: bool = False                 # BlockPermalock: 1 locks, 0 reads
+    session: Optional[int] = None       # of the Query family: S0 to S3
+    sel: Optional[int] = None           # of Query: which tags by their SL
+    target: Optional[int] = None        # Query: 0 is A, 1 is B; Select: the flag
+    q: Optional[int] = None
+    updn: Optional[int] = None          # QueryAdjust: what becomes of Q
+    pattern: str = ""                   # Select's mask
+    truncate: bool = False
 
 
 class Reader:
@@ -439,6 +509,16 @@ class Reader:
         refuse(self.place + width > len(self.bits), 7)
         self.place += width
         return int(self.bits[self.place - width:self.place], 2)
+
+    # The next bits as they are.
+    def take_bits(self, width):
+        return bits_of(self.take(width), width) if width else ""
+
+    # The code; bits that begin none are an unknown one.
+    def take_code(self):
+        code = code_of(self.bits[self.place:])
+        refuse(code is None, 7)
+        return self.take_bits(len(code))
 
     # So many words.
     def take_words(self, count):
@@ -455,10 +535,40 @@ class Reader:
         raise Refused(7)
 
 
+# The fields of a command of the inventory, and its length in bits.
+def take_inventory_fields(reader, command):
+    if command.code == QUERY_REP:
+        command.session = reader.take(2)
+        return command, 4
+    if command.code == ACK:
+        command.number = reader.take(16)
+        return command, 18
+    if command.code == QUERY_ADJUST:
+        command.session = reader.take(2)
+        command.updn = reader.take(3)
+        return command, 9
+    if command.code == QUERY:
+        reader.take(4)                  # DR, M, TRext: read over, though the CRC-5 covers them
+        command.sel = reader.take(2)
+        command.session = reader.take(2)
+        command.target = reader.take(1)
+        command.q = reader.take(4)
+        return command, 22
+    command.target = reader.take(3)
+    command.action = reader.take(3)
+    command.bank = BANKS[reader.take(2)]
+    command.pointer, e = reader.take_ebv()
+    length = reader.take(8)
+    command.pattern = reader.take_bits(length)
+    command.truncate = reader.take(1) == 1
+    return command, 37 + 8 * e + length
+
+
 # The fields of a frame whose layout its code chooses, and its length in bits.
 def take_fields(reader):
-    command = Command(reader.take(8))
-    refuse(not NAK <= command.code <= BLOCK_PERMALOCK, 7)
+    command = Command(reader.take_code())
+    if command.code in INVENTORY:
+        return take_inventory_fields(reader, command)
     if command.code == NAK:
         return command, 8
     if command.code == REQ_RN:
@@ -494,6 +604,16 @@ def take_fields(reader):
     return command, 59 + 8 * e
 
 
+# Whether the CRC at a frame's end is right; NAK, QueryRep, QueryAdjust and ACK
+# have none.
+def crc_right(code, bits):
+    if code == QUERY:
+        return bits == bits[:-5] + bits_of(crc5(bits[:-5]), 5)
+    if code == SELECT or code in NUMBERED:
+        return bits == with_crc(bits[:-16])
+    return True
+
+
 # A frame of a bit count and bytes, taken apart; answers 7 and 8.
 def read_frame(bit_count, data):
     refuse(bit_count > 8 * len(data), 7)
@@ -501,41 +621,64 @@ def read_frame(bit_count, data):
     reader = Reader(bits)
     command, length = take_fields(reader)
     refuse(len(bits) != length, 7)
-    if command.code != NAK:
+    if command.code in NUMBERED:
         command.number = reader.take(16)
-        refuse(crc16(bits[:-16]) != reader.take(16), 8)
+    refuse(not crc_right(command.code, bits), 8)
     return command
 
 
 # --------------------------------------------------------------------------
-# Session and frames: wrong number, state, missing cover, zero range or RFU
+# Session and frames: wrong number, state, missing cover, zero range, RFU; what
+# of the inventory is ignored
 # --------------------------------------------------------------------------
 
-# The states a command works in.
+# The states a command works in; in all others, Killed among them, it is ignored.
 def working_states(code):
+    if code in (QUERY, SELECT):
+        return ("ready", "arbitrate", "reply", *FOUND)
+    if code in (QUERY_ADJUST, QUERY_REP, NAK):
+        return ("arbitrate", "reply", *FOUND)
+    if code == ACK:
+        return ("reply", *FOUND)
     if code == REQ_RN:
-        return ("acknowledged", "open", "secured")
+        return FOUND
     if code in (LOCK, BLOCK_PERMALOCK):
         return ("secured",)
     return ("open", "secured")
 
 
+# What QueryAdjust's UpDn adds to Q.
+UPDN = {0b110: 1, 0b000: 0, 0b011: -1}
+
+# The flag that a Select goes to: an inventoried flag by its number, or SL.
+SELECT_SL = 4
+
+
 # Answer 9.
 def refuse_out_of_place(session, command):
-    refuse(session.state == "killed", 9)
-    if command.code == NAK:
-        return
-    refuse(session.state not in working_states(command.code), 9)
-    refuse(command.number != session.number, 9)
-    refuse(command.code in (WRITE, ACCESS, KILL) and session.cover is None, 9)
-    refuse(command.code in (BLOCK_WRITE, BLOCK_ERASE, BLOCK_PERMALOCK) and command.count == 0, 9)
+    code = command.code
+    refuse(session.state not in working_states(code), 9)
+    refuse(code in NUMBERED and command.number != session.number, 9)
+    refuse(code in (WRITE, ACCESS, KILL) and session.cover is None, 9)
+    refuse(code in (BLOCK_WRITE, BLOCK_ERASE, BLOCK_PERMALOCK) and command.count == 0, 9)
     refuse(command.rfu != 0, 9)
+    refuse(code in (QUERY_ADJUST, QUERY_REP) and command.session != session.round.session, 9)
+    refuse(code == QUERY_ADJUST and command.updn not in UPDN, 9)
+    refuse(code == SELECT and command.target > SELECT_SL, 9)
+    refuse(code == SELECT and command.bank == "RESERVED", 9)
+    refuse(command.truncate, 9)
+
+
+# Whether a command is one to this tag, known by its number or its handle; the
+# others go to every tag, or to another.
+def to_this_tag(session, command):
+    return command.code in NUMBERED or (command.code == ACK and command.number == session.number)
 
 
 # Whether the halves of a password are broken, or the password is wrong;
 # answer 12.
 def halves_broken(image, layout, session, command):
-    if session.half is None or command.code in (REQ_RN, NAK):
+    if session.half is None or command.code == REQ_RN or not to_this_tag(session, command):
         return False
     waiting, upper = session.half
     if command.code != waiting:
@@ -574,7 +717,7 @@ def pair_allows(pair, state):
 
 @dataclass(frozen=True)
 class Plan:
-    """What a command to this tag does when reply and power suffice."""
+    """What a command does when reply and power suffice."""
 
     number: int                         # 0, or 10 with an error reply
     session: Session
@@ -631,6 +774,114 @@ class Call:
     def refuse_overrun(self, count):
         pointer = self.command.pointer
         error_if(pointer >= self.bank_count or pointer + count > self.bank_count, 0x03)
+
+
+# A tag in a round with a new slot: Reply with the fresh word, which is its
+# number, where the slot is 0; else Arbitrate and no reply.
+def plan_slot(call, session, inventory_round, slot):
+    if slot != 0:
+        return Plan(0, moved(session, "arbitrate", round=inventory_round, slot=slot))
+    return Plan(0, moved(session, "reply", round=inventory_round, number=call.fresh),
+                bits_of(call.fresh, 16))
+
+
+# A slot drawn: the low Q bits of the fresh word.
+def drawn_slot(call, q):
+    return call.fresh & (1 << q) - 1
+
+
+# The session with the inventoried flag of this session number inverted.
+def flag_inverted(session, number):
+    return replace(session, flags=session.flags.inverted(number))
+
+
+# The values of SL that a Query's Sel speaks to.
+SEL = {0b00: (True, False), 0b01: (True, False), 0b10: (False,), 0b11: (True,)}
+
+
+# Whether a Query speaks to a tag with these flags.
+def query_matches(command, flags):
+    return flags.sl in SEL[command.sel] and flags.inventoried[command.session] == "AB"[command.target]
+
+
+# Query: ends the old round for a tag that was found in it, and begins a new one
+# for a tag that matches.
+def plan_query(call):
+    command, session = call.command, call.session
+    if session.state in FOUND and command.session == session.round.session:
+        session = flag_inverted(session, command.session)
+    if not query_matches(command, session.flags):
+        return Plan(0, moved(session, "ready"))
+    return plan_slot(call, session, Round(command.session, command.q), drawn_slot(call, command.q))
+
+
+# QueryAdjust: Q one more, one less or as it is, and a new slot; a tag that was
+# found is done with.
+def plan_query_adjust(call):
+    session = call.session
+    if session.state in FOUND:
+        return plan_done_with(session)
+    q = min(15, max(0, session.round.q + UPDN[call.command.updn]))
+    return plan_slot(call, session, Round(session.round.session, q), drawn_slot(call, q))
+
+
+# QueryRep: the slot counts down, 0 to 7FFFh; a tag that was found is done with.
+def plan_query_rep(call):
+    session = call.session
+    if session.state in FOUND:
+        return plan_done_with(session)
+    return plan_slot(call, session, session.round, session.counter - 1 & 0x7FFF)
+
+
+# A tag that was found and is done with: its flag of the round's session is
+# inverted, and it is Ready.
+def plan_done_with(session):
+    return Plan(0, moved(flag_inverted(session, session.round.session), "ready"))
+
+
+# ACK: the PC, the L words after it and their CRC-16, which is computed and not
+# the one stored; with another number, Arbitrate and no reply.
+def plan_ack(call):
+    session = call.session
+    if call.command.number != session.number:
+        return Plan(0, to_arbitrate(session))
+    if session.state == "reply":
+        session = replace(session, state="acknowledged")
+    return call.done(pc_and_epc(call.image, call.layout), session=cover_used(session))
+
+
+# Whether a Select's mask is the bank's bits from its pointer on.
+def mask_matches(call):
+    pointer, pattern = call.command.pointer, call.command.pattern
+    first = call.layout.offset[call.command.bank]
+    bank = bits_of_bytes(call.image[2 * first:2 * (first + call.bank_count)])
+    if pointer >= len(bank) or pointer + len(pattern) > len(bank):
+        return False
+    return bank[pointer:pointer + len(pattern)] == pattern
+
+
+# What Select does to its flag by its action: matching, not matching. "set" is to
+# assert SL or to make A, "clear" to deassert SL or to make B, "turn" the other
+# of the two, "-" nothing.
+SELECT_ACTIONS = (("set", "clear"), ("set", "-"), ("-", "clear"), ("turn", "-"),
+                  ("clear", "set"), ("clear", "-"), ("-", "set"), ("-", "turn"))
+
+
+# The flags after a Select.
+def selected_flags(command, flags, matching):
+    target = command.target
+    is_set = flags.sl if target == SELECT_SL else flags.inventoried[target] == "A"
+    effect = SELECT_ACTIONS[command.action][0 if matching else 1]
+    after = {"set": True, "clear": False, "turn": not is_set, "-": is_set}[effect]
+    if target == SELECT_SL:
+        return replace(flags, sl=after)
+    return flags.with_inventoried(target, "A" if after else "B")
+
+
+# Select: its flag by its action, then Ready.
+def plan_select(call):
+    flags = selected_flags(call.command, call.session.flags, mask_matches(call))
+    return Plan(0, moved(call.session, "ready", flags=flags))
 
 
 # NAK: Arbitrate, no reply.
@@ -711,8 +962,7 @@ def plan_kill(call):
         error_if(kill_password(call.image, call.layout) == (0, 0), 0x00)
         return plan_upper_half(call)
     killed_at = call.layout.offset["STATUS"] + 1
-    return call.done("0" + call.handle, [(killed_at, 1)], session=replace(
-        call.session, state="killed", number=None, cover=None, half=None))
+    return call.done("0" + call.handle, [(killed_at, 1)], session=moved(call.session, "killed"))
 
 
 # Lock: 04h if it would clear a permalock bit, change the pwd bit of a
@@ -747,7 +997,9 @@ def plan_block_permalock(call):
         (first + k, old | mask) for k, old, mask in zip(wanted, now, command.words)])
 
 
-PLANS = {NAK: plan_nak, REQ_RN: plan_req_rn, READ: plan_read, WRITE: plan_write,
+PLANS = {QUERY_REP: plan_query_rep, ACK: plan_ack, QUERY: plan_query,
+         QUERY_ADJUST: plan_query_adjust, SELECT: plan_select,
+         NAK: plan_nak, REQ_RN: plan_req_rn, READ: plan_read, WRITE: plan_write,
          KILL: plan_kill, LOCK: plan_lock, ACCESS: plan_access,
          BLOCK_WRITE: plan_block_write, BLOCK_ERASE: plan_block_erase,
          BLOCK_PERMALOCK: plan_block_permalock}
@@ -940,11 +1192,27 @@ def show_half(half):
     return "%s:%04x" % ("access" if half[0] == ACCESS else "kill", half[1])
 
 
+# Slot, Q and session of the round.
+def show_round(session):
+    slot = "-" if session.slot is None else "%d" % session.slot
+    if session.round is None:
+        return slot + " - -"
+    return "%s %d s%d" % (slot, session.round.q, session.round.session)
+
+
+# The flags.
+def show_flags(flags):
+    if flags is None:
+        return "-"
+    return "".join(flags.inventoried) + ("S" if flags.sl else "-")
+
+
 # The session at the end of a line.
 def show_session(session):
-    return "session %s %s %s %s %s %d" % (
+    return "session %s %s %s %s %s %d %s %s" % (
         session.state, show_word(session.number), show_word(session.cover),
-        show_half(session.half), "held" if session.held else "free", session.register)
+        show_half(session.half), "held" if session.held else "free", session.register,
+        show_round(session), show_flags(session.flags))
 
 
 # The room afterwards: the reply in front, the bytes beyond it as before.
@@ -959,7 +1227,6 @@ class Bench:
     # The parts that follow each word.
     PARTS = {
         b"image": (read_image,), b"check": (), b"power": (read_number,),
-        b"admit": (read_word,),
         b"frame": (read_number, read_hex, read_word, read_room, read_number),
         b"ask": (), b"release": (), b"register": (),
         b"read": (read_number, read_number, read_room),
@@ -1022,9 +1289,6 @@ class Bench:
 
     def do_power(self, s):
         return self.call(0, power_up, self.image, s)
-
-    def do_admit(self, number):
-        return self.call(0, admit, self.session, number)
 
     def do_frame(self, bit_count, data, fresh, room, s):
         return self.call(room, radio_frame, self.image, self.session,

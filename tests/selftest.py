@@ -6,9 +6,11 @@ import random
 import build
 import makelist
 import model
+import possible
 from build import BANK_EPC, BANK_USER, Image
 
 ENOUGH = build.ENOUGH
+NUMBER = 0x1234
 HANDLE = 0xA5C3
 COVER = 0x0F1E
 
@@ -20,11 +22,13 @@ COVER = 0x0F1E
 # A bench on this image, in Secured with a handle and a cover number.
 def secured_bench(image):
     bench = model.Bench()
-    for text in (build.image_line(image.bytes()), "power 9", "admit 1234",
-                 build.frame_line(build.req_rn(0x1234), fresh=HANDLE),
+    for text in (build.image_line(image.bytes()), "power 9",
+                 build.frame_line(build.query(0), fresh=NUMBER), build.frame_line(build.ack(NUMBER)),
+                 build.frame_line(build.req_rn(NUMBER), fresh=HANDLE),
                  build.frame_line(build.req_rn(HANDLE), fresh=COVER)):
         bench.line(text.encode())
-    assert bench.session == model.Session("secured", HANDLE, COVER)
+    assert bench.session == model.Session("secured", HANDLE, COVER, round=model.Round(0, 0),
+                                          flags=model.Flags())
     return bench
 
 
@@ -49,6 +53,16 @@ def crc_cases():
         bits = "".join(chance.choice("01") for _ in range(chance.randrange(200)))
         assert model.crc16(bits) == build.crc(bits)
         assert model.crc16(model.with_crc(bits)) == 0x1D0F ^ 0xFFFF     # the residue
+
+
+# CRC-5 of every Query, against the long division of build.py and one by hand: 1000 0000 0000 0001 0
+# with the preset laid on leaves 00010b.
+def crc5_cases():
+    assert model.crc5("10000000000000010") == build.crc5("10000000000000010") == 0b00010
+    for number in range(1 << 13):
+        bits = "1000" + build.field_bits(number, 13)
+        assert model.crc5(bits) == build.crc5(bits)
+        assert model.crc5(bits + build.field_bits(build.crc5(bits), 5)) == 0    # the residue
 
 
 def ebv_cases():
@@ -117,6 +131,22 @@ def spi_case():
     assert [model.word(bench.image, n) for n in range(30, 34)] == [6, 10, 0xCCCC, 0xDDDD]
 
 
+# A tag is found: slot 3 of four, counted down, and the ACK's reply.
+def inventory_case():
+    bench = model.Bench()
+    for text in (build.image_line(Image().bytes()), "power 1"):
+        bench.line(text.encode())
+    assert send(bench, build.query(2), fresh=0x7AD7).session.slot == 3
+    for slot in (2, 1):
+        assert send(bench, build.query_rep(0)).session.slot == slot
+    answer = send(bench, build.query_rep(0), fresh=0x613A)
+    assert answer.session.state == "reply" and int(answer.reply, 2) == answer.session.number == 0x613A
+    answer = send(bench, build.ack(0x613A))
+    assert answer.session.state == "acknowledged" and "%x" % int(answer.reply, 2) == "1000303402579297"
+    answer = send(bench, build.query_rep(0))
+    assert answer.session == model.Session("ready", flags=model.Flags(("B", "A", "A", "A")))
+
+
 def limit_cases():
     bench = secured_bench(Image())
     assert send(bench, build.write(BANK_USER, 15, 1, COVER, HANDLE)).number == 0
@@ -144,6 +174,7 @@ def line_cases():
     assert model.run(b"#" + 20000 * b"x" + b"\n") == b"bad line 1\n"
     assert model.run(b"image " + 9604 * b"00") == b"image 9604\n"
     assert model.run(b"image " + 9605 * b"00") == b"bad line 1\n"
+    assert model.run(b"admit\nadmit 1234\nadmit 1234 0") == b"bad line 1\nbad line 2\nbad line 3\n"
 
 
 # --------------------------------------------------------------------------
@@ -165,14 +196,21 @@ def parts_of(written, text):
     parts.update(stores=words[3], reply=words[5])
     if words[7] == "value":
         parts["value"] = words[8]
-    for key, part in zip(("state", "number", "cover", "half", "port", "register"), words[-6:]):
-        parts[key] = part
+    keys = ("state", "number", "cover", "half", "port", "register", "slot", "q", "round", "flags")
+    parts.update(zip(keys, words[-len(keys):]))
     bits = model.bits_of_bytes(model.read_hex(words[6].encode()))[:int(words[5])]
     if words[1] == "10":
         parts["code"] = "%02x" % int(bits[1:9], 2)
     data = bits if text.startswith(b"read") else bits[1:-32]
-    parts["data"] = ",".join("%04x" % int(data[k:k + 16], 2) for k in range(0, len(data) - 15, 16))
+    parts["data"] = words_of(data)
+    if len(bits) % 16 == 0:
+        parts["whole"] = words_of(bits)
     return parts
+
+
+# Bits as words, parted by commas.
+def words_of(bits):
+    return ",".join("%04x" % int(bits[k:k + 16], 2) for k in range(0, len(bits) - 15, 16))
 
 
 # Whether the parts are as a '#>' line says.
@@ -189,8 +227,8 @@ def check_expected(expected, parts, where):
 
 # The code of a frame line's command, where it has one.
 def command_of(text):
-    data = text.split(b" ")[2]
-    return int(data[:2], 16) if data != b"-" else None
+    count, data = text.split(b" ")[1:3]
+    return model.code_of(model.bits_of_bytes(model.read_hex(data))[:int(count)])
 
 
 # The error codes that each command can give.
@@ -207,8 +245,9 @@ def list_cases():
         content = source.read()
     assert content == makelist.whole_list().encode("utf-8"), "crates/bench/stdin is not as makelist.py writes it"
     bench, expected, held = model.Bench(), None, 0
-    answers, codes = set(), set()
+    answers, codes, seen = set(), set(), set()
     for number, text in enumerate(model.lines_of(content), 1):
+        situation = possible.situation_of(bench.session)
         written = bench.line(text)
         if text.startswith(b"#> "):
             expected = text[3:].decode()
@@ -221,14 +260,25 @@ def list_cases():
         answers.add(parts.get("answer"))
         if "code" in parts:
             codes.add((command_of(text), parts["code"]))
+        if text.startswith(b"frame") and "answer" in parts:
+            seen.add((situation, model.NAMES.get(command_of(text), "unknown code"), int(parts["answer"])))
     assert {str(n) for n in range(14)} <= answers
     assert codes == POSSIBLE_CODES, codes ^ POSSIBLE_CODES
+    assert seen <= set(possible.POSSIBLE), seen - set(possible.POSSIBLE)
+    wanted = {case for case in possible.POSSIBLE if case[1] in possible.INVENTORY}
+    assert coarse(wanted) <= coarse(seen), coarse(wanted) - coarse(seen)
     return held
 
 
+# Situations by their states, and whether a half waits.
+def coarse(cases):
+    return {(situation.split(" ")[0], "access" in situation or "kill" in situation, kind, answer)
+            for situation, kind, answer in cases}
+
+
 if __name__ == "__main__":
-    for case in (crc_cases, ebv_cases, small_image_cases, write_cases, lock_cases, spi_case,
-                 limit_cases, line_cases):
+    for case in (crc_cases, crc5_cases, ebv_cases, small_image_cases, write_cases, lock_cases, spi_case,
+                 inventory_case, limit_cases, line_cases):
         case()
         print("good:", case.__name__)
     print("good: the list of bench, %d lines held to what they must bring" % list_cases())

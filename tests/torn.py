@@ -13,7 +13,7 @@ import build
 import model
 from build import BANK_EPC, BANK_RESERVED, BANK_USER, ENOUGH, Image
 
-ADMISSION, HANDLE, COVER, LATER_COVER = 0x1234, 0xA5C3, 0x0F1E, 0x7B2D
+NUMBER, HANDLE, COVER, LATER_COVER = 0x1234, 0xA5C3, 0x0F1E, 0x7B2D
 KILL_PASSWORD = [0x4B49, 0x4C4C]
 
 # What is tried: an image's bytes, and a call that stores something in them, with power for s stores.
@@ -161,10 +161,11 @@ def heard(image, session, bits, fresh=0, s=ENOUGH):
 # A session in Secured with a handle and a cover number; one with half of the kill password, too.
 def secured(image):
     image = bytearray(image)
-    session = model.admit(model.power_up(image, ENOUGH).session, ADMISSION).session
-    for number, fresh in ((ADMISSION, HANDLE), (HANDLE, COVER)):
-        session = heard(image, session, build.req_rn(number), fresh).session
-    assert session == model.Session("secured", HANDLE, COVER)
+    session = model.power_up(image, ENOUGH).session
+    for bits, fresh in ((build.query(0), NUMBER), (build.ack(NUMBER), 0),
+                        (build.req_rn(NUMBER), HANDLE), (build.req_rn(HANDLE), COVER)):
+        session = heard(image, session, bits, fresh).session
+    assert (session.state, session.number, session.cover) == ("secured", HANDLE, COVER)
     return session
 
 

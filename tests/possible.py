@@ -1,0 +1,120 @@
+"""Which answers the rules allow, for each situation of a session and each command or call.
+
+A list of its own, from the states, the order of refusals and what each command needs. selftest.py
+and compare hold the hand list and the random lists to it: every pair with every answer it can have.
+"""
+
+import model
+
+# The commands by what guards their frames.
+UNGUARDED = ("QueryRep", "ACK", "QueryAdjust", "NAK")
+INVENTORY = ("Query", "QueryAdjust", "QueryRep", "ACK", "Select")
+COMMANDS = INVENTORY + ("NAK", "Req_RN", "Read", "Write", "Kill", "Lock", "Access", "BlockWrite",
+                        "BlockErase", "BlockPermalock")
+CALLS = ("power", "ask", "release", "register", "read", "write")
+KINDS = COMMANDS + ("unknown code",) + CALLS
+
+LINKED = ("open", "secured")
+
+# The situations: a state, and in Open and Secured the waiting half and the cover number.
+SITUATIONS = (("off", "ready", "arbitrate", "reply", "acknowledged")
+              + tuple("%s%s%s" % (state, half, cover) for state in LINKED
+                      for half in ("", " access", " kill") for cover in ("", " cover"))
+              + ("killed",))
+
+
+# The situation that a session of the model is in.
+def situation_of(session):
+    half = " " + model.NAMES[session.half[0]].lower() if session.half else ""
+    return session.state + half + ("" if session.cover is None else " cover")
+
+
+# Its state, its waiting half and whether it has a cover number.
+def parts_of(situation):
+    state, *rest = situation.split(" ")
+    half = next((word for word in rest if word != "cover"), None)
+    return state, half, "cover" in rest
+
+
+# What a frame past 8 can be answered in a state outside Open and Secured.
+UNLINKED = {
+    "ready": {"Query": {0, 4}, "Select": {0, 9}},
+    "arbitrate": {"Query": {0, 4}, "QueryAdjust": {0, 4, 9}, "QueryRep": {0, 4, 9}, "Select": {0, 9},
+                  "NAK": {0}},
+    "reply": {"Query": {0, 4}, "QueryAdjust": {0, 4, 9}, "QueryRep": {0, 9}, "ACK": {0, 4},
+              "Select": {0, 9}, "NAK": {0}},
+    "acknowledged": {"Query": {0, 4}, "QueryAdjust": {0, 9}, "QueryRep": {0, 9}, "ACK": {0, 4},
+                     "Select": {0, 9}, "NAK": {0}, "Req_RN": {0, 4, 9}},
+    "killed": {}}
+
+# The same in Open and Secured: what goes to every tag, or takes part in no half.
+LINKED_ALWAYS = {"Query": {0, 4}, "QueryAdjust": {0, 9}, "QueryRep": {0, 9}, "Select": {0, 9},
+                 "NAK": {0}, "Req_RN": {0, 4, 9}}
+
+# With no half waiting, the cover number there.
+UNHALVED = {"ACK": {0, 4}, "Read": {0, 4, 9, 10}, "Write": {0, 4, 9, 10, 11}, "Kill": {0, 4, 9, 10},
+            "Lock": {0, 4, 9, 10, 11}, "Access": {0, 4, 9}, "BlockWrite": {0, 4, 9, 10, 11},
+            "BlockErase": {0, 4, 9, 10, 11}, "BlockPermalock": {0, 4, 9, 10, 11}}
+
+# The right second half.
+RIGHT = {("access", "Access"): {0, 4}, ("kill", "Kill"): {0, 4, 11}}
+
+
+# What a frame past 8 can be answered in Open and Secured.
+def linked_answers(state, half, cover, command):
+    if command in LINKED_ALWAYS:
+        return LINKED_ALWAYS[command]
+    if command in ("Lock", "BlockPermalock") and state == "open":
+        return {9}
+    if command in ("Write", "Kill", "Access") and not cover:
+        return {9}
+    if half is None:
+        return UNHALVED[command]
+    if command == "ACK":
+        return {0, 12}                  # another number; the handle
+    return {9, 12} | RIGHT.get((half, command), set())
+
+
+# What a frame of this command can be answered.
+def frame_answers(situation, command):
+    state, half, cover = parts_of(situation)
+    if state == "off":
+        return {1, 2, 3, 5}
+    answers = {1, 2, 3, 5, 7} | (set() if state in LINKED else {6})
+    if command == "unknown code":
+        return answers
+    if command not in UNGUARDED:
+        answers |= {8}
+    if state in LINKED:
+        return answers | linked_answers(state, half, cover, command)
+    return answers | UNLINKED[state].get(command, {9})
+
+
+# What another call can be answered.
+def call_answers(situation, call):
+    state = parts_of(situation)[0]
+    if call == "power":
+        return {0, 1, 2, 3, 11}
+    imageless = call in ("ask", "release", "register")
+    answers = {5} if state == "off" or not imageless else set()
+    answers |= set() if imageless else {1, 2, 3}
+    if state == "off":
+        return answers
+    if state in LINKED:
+        return answers | {6}            # never granted there, so never held
+    answers |= {0, 6}
+    if call == "read":
+        return answers | {4, 13}
+    if call == "write":
+        return answers | ({13} if state == "killed" else {11, 13})
+    return answers
+
+
+# What a frame of this command, or this call, can be answered.
+def answers_of(situation, kind):
+    return call_answers(situation, kind) if kind in CALLS else frame_answers(situation, kind)
+
+
+# Every possible (situation, kind, answer).
+POSSIBLE = [(situation, kind, answer) for situation in SITUATIONS for kind in KINDS
+            for answer in sorted(answers_of(situation, kind))]
