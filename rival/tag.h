@@ -1,5 +1,7 @@
-/* The rival's tag, over the CRC-16 steps of the file that includes it. */
+/* The rival's tag, over the CRC-16 steps and the CRC-5 of the file that includes it. */
 #include <string.h>
+
+#define INLINED static inline __attribute__((always_inline))
 
 typedef const uint8_t *bytes;
 
@@ -20,18 +22,14 @@ static inline uint32_t four(bytes p) {
     return __builtin_bswap32(v);
 }
 
-/* of n bits; two bytes more can be read behind them */
 static uint16_t crc_bits(bytes p, size_t n) {
     uint16_t r = 0xFFFF;
 #if WORDS_AT_ONCE == 4
     for (; n >= 64; n -= 64, p += 8) r = step64(r, eight(p));
-    if (n >= 16) {
-        uint64_t v = n > 40 ? eight(p) >> (64 - n) : n > 32 ? ((uint64_t)four(p) << 8 | p[4]) >> (40 - n) : four(p) >> (32 - n);
-        return (uint16_t)~step64(0, (uint64_t)r << (n - 16) ^ v);
-    }
 #endif
-    for (; n >= 8; n -= 8) r = step8(r, *p++);
-    if (n) r = step_few(r, *p >> (8 - n), (unsigned)n);
+    for (size_t k = n / 8; k; k--) r = step8(r, *p++);
+    unsigned k = n % 8;
+    if (k) r = step_few(r, *p >> (8 - k), k);
     return (uint16_t)~r;
 }
 
@@ -74,7 +72,7 @@ static inline uint64_t bits64(bytes p, size_t at) {
 }
 
 /* n bits of a from bit i on are those of b from bit j on; two bytes more can be read behind both */
-static inline int same_bits(bytes a, size_t i, bytes b, size_t j, size_t n) {
+INLINED int same_bits(bytes a, size_t i, bytes b, size_t j, size_t n) {
     if (n >= 64) {
         for (; n > 64; n -= 64, i += 64, j += 64)
             if (bits64(a, i) != bits64(b, j)) return 0;
@@ -283,7 +281,7 @@ static void reply_bare(uint8_t *o, bytes p, size_t n) {
 /* the inventoried flag of a session, 0 to 3, or SL, 4 */
 static inline uint8_t *flag(struct tag_session *s, unsigned i) { return (uint8_t *)s + offsetof(struct tag_session, s0) + i; }
 
-/* no number, cover or half: Ready, Arbitrate */
+/* no number, cover or half */
 static inline void unlink_session(struct tag_session *s) {
     s->covered = s->half = 0;
     s->number = s->cover = s->upper = 0;
@@ -323,11 +321,10 @@ static inline int end_round(struct tag_session *s) {
 
 static inline int in_round(const struct tag_session *s) { return s->state >= TAG_ARBITRATE && s->state <= TAG_SECURED; }
 
-static inline int query_rep(struct tag_session *s, bytes f, size_t n, unsigned fresh, uint8_t *room, size_t rn, struct rival_out *out) {
-    if (n != 4) return 7;
+INLINED int query_rep(struct tag_session *s, bytes f, unsigned fresh, uint8_t *room, size_t rn, struct rival_out *out) {
     if (!in_round(s) || f[0] >> 4 != s->round) return 9;
     if (s->state > TAG_REPLY) return end_round(s);
-    unsigned slot = (s->slot - 1u) & 0x7FFF;
+    unsigned slot = (s->slot - 1u) & 0x7FFF; /* Reply has slot 0 */
     if (!slot) return rn < 2 ? 4 : to_reply(s, fresh, room, out);
     s->state = TAG_ARBITRATE;
     s->number = 0;
@@ -335,8 +332,7 @@ static inline int query_rep(struct tag_session *s, bytes f, size_t n, unsigned f
     return 0;
 }
 
-static inline int query_adjust(struct tag_session *s, bytes f, size_t n, unsigned fresh, uint8_t *room, size_t rn, struct rival_out *out) {
-    if (n != 9) return 7;
+INLINED int query_adjust(struct tag_session *s, bytes f, unsigned fresh, uint8_t *room, size_t rn, struct rival_out *out) {
     unsigned turn = (f[0] & 3u) << 1 | f[1] >> 7, q = s->q;
     if (!in_round(s) || (f[0] >> 2 & 3) != s->round || !(0x49 >> turn & 1)) return 9; /* 000, 011, 110 */
     if (s->state > TAG_REPLY) return end_round(s);
@@ -350,8 +346,7 @@ static inline int query_adjust(struct tag_session *s, bytes f, size_t n, unsigne
     return 0;
 }
 
-static inline int query(struct tag_session *s, bytes f, size_t n, unsigned fresh, uint8_t *room, size_t rn, struct rival_out *out) {
-    if (n != 22) return 7;
+INLINED int query(struct tag_session *s, bytes f, unsigned fresh, uint8_t *room, size_t rn, struct rival_out *out) {
     if (crc5_wrong(f)) return 8;
     if (s->state == TAG_KILLED) return 9;
     unsigned session = f[1] >> 4 & 3, sel = f[1] >> 6, target = f[1] >> 3 & 1, q = (f[1] & 7u) << 1 | f[2] >> 7;
@@ -371,9 +366,13 @@ static inline int query(struct tag_session *s, bytes f, size_t n, unsigned fresh
     return 0;
 }
 
-static inline int ack(struct tag_session *s, bytes m, const struct rival_layout *y, bytes f, size_t n, uint8_t *room, size_t rn,
-                      struct rival_out *out) {
-    if (n != 18) return 7;
+static inline int nak(struct tag_session *s) {
+    if (!in_round(s)) return 9;
+    if (s->state != TAG_ARBITRATE) to_arbitrate(s, 0);
+    return 0;
+}
+
+INLINED int ack(struct tag_session *s, bytes m, const struct rival_layout *y, bytes f, uint8_t *room, size_t rn, struct rival_out *out) {
     if (s->state < TAG_REPLY || s->state == TAG_KILLED) return 9;
     if (field16(f, 2) != s->number || s->half) {
         int halves = field16(f, 2) == s->number;
@@ -387,6 +386,27 @@ static inline int ack(struct tag_session *s, bytes m, const struct rival_layout 
     if (s->state == TAG_REPLY) s->state = TAG_ACKNOWLEDGED;
     s->covered = 0;
     s->cover = 0;
+    return 0;
+}
+
+/* what Select's action does to the flag: 0 assert SL or A, 1 deassert SL or B, 2 nothing, 3 negate; from the right, actions 000 to 111 without
+   a match, then with one */
+#define EFFECTS 0xA5E0C899u
+
+static inline int selection(struct tag_session *s, bytes m, bytes f, size_t n) {
+    unsigned from, e;
+    if (n < 45 || !(e = pointer(f, 12, &from))) return 7;
+    size_t length = field(f, 12 + 8 * e, 8), mask = 20 + 8 * e;
+    if (n != 37 + 8 * e + length) return 7;
+    if (field16(f, n - 16) != crc_bits(f, n - 16)) return 8;
+    unsigned target = f[0] >> 1 & 7, action = (f[0] & 1u) << 2 | f[1] >> 6, bank = f[1] >> 4 & 3;
+    if (s->state == TAG_KILLED || target > 4 || !bank || field(f, n - 17, 1)) return 9;
+    unsigned at = word(m, 4 + 2 * bank), words = word(m, 5 + 2 * bank);
+    int match = from + length + !length <= 16 * (size_t)words && same_bits(f, mask, m + 2 * at, from, length);
+    unsigned effect = EFFECTS >> (16 * match + 2 * action) & 3;
+    uint8_t *it = flag(s, target);
+    *it = (uint8_t)((effect & 2 ? *it : target == 4) ^ (effect & 1));
+    to_ready(s);
     return 0;
 }
 
@@ -473,27 +493,6 @@ static inline void bank_of(const struct rival_layout *y, unsigned bank, unsigned
     }
 }
 
-/* what Select's action does to the flag: 0 assert SL or A, 1 deassert SL or B, 2 nothing, 3 negate; from the right, actions 000 to 111 without
-   a match, then with one */
-#define EFFECTS 0xA5E0C899u
-
-static inline int selection(struct tag_session *s, bytes m, const struct rival_layout *y, bytes f, size_t n) {
-    unsigned from, e, at, words;
-    if (n < 45 || !(e = pointer(f, 12, &from))) return 7;
-    size_t length = field(f, 12 + 8 * e, 8), mask = 20 + 8 * e;
-    if (n != 37 + 8 * e + length) return 7;
-    if (field16(f, n - 16) != crc_bits(f, n - 16)) return 8;
-    unsigned target = f[0] >> 1 & 7, action = (f[0] & 1u) << 2 | f[1] >> 6, bank = f[1] >> 4 & 3;
-    if (s->state == TAG_KILLED || target > 4 || !bank || field(f, n - 17, 1)) return 9;
-    bank_of(y, bank, &at, &words);
-    int match = from + length + !length <= 16 * (size_t)words && same_bits(f, mask, m + 2 * at, from, length);
-    unsigned effect = EFFECTS >> (16 * match + 2 * action) & 3;
-    uint8_t *it = flag(s, target);
-    *it = (uint8_t)((effect & 2 ? *it : target == 4) ^ (effect & 1));
-    to_ready(s);
-    return 0;
-}
-
 static int reserved_open(unsigned lock, unsigned from, unsigned n, int secured) {
     if (from < 2 && !open_pair(lock, 0, secured)) return 0;
     return from + n <= 2 || open_pair(lock, 1, secured);
@@ -552,17 +551,25 @@ static int perma_error(bytes m, const struct rival_layout *y, const struct comma
     return (word(m, 16) & 3) == 1 ? 4 : NO_ERROR;
 }
 
-/* codes from C0h on */
-static int byte_code(struct tag_session *s, uint8_t *m, const struct rival_layout *y, bytes f, size_t n, unsigned fresh, uint8_t *room, size_t rn,
-                     size_t power, struct rival_out *out) {
+/* the answers of every call with an image: 1, 2, 3, 5 */
+INLINED int front(const struct tag_session *s, bytes m, size_t mn, struct rival_layout *y, struct rival_out *out) {
+    out->reply = out->stores = out->value = 0;
+    int a = NAME(check)(m, mn, y);
+    if (a) return a;
+    return s->state == TAG_OFF || word(m, y->work) ? 5 : 0;
+}
+
+/* frames of 40 bits or more: Select, and the codes of a byte but NAK */
+static __attribute__((noinline)) int long_frame(struct tag_session *s, uint8_t *m, size_t mn, bytes f, size_t fn, size_t n, unsigned fresh,
+                                                uint8_t *room, size_t rn, size_t power, struct rival_out *out) {
+    struct rival_layout y;
     struct command c;
     struct change d = {0};
-    if (f[0] == 0xC0) {
-        if (n != 8) return 7;
-        if (!in_round(s)) return 9;
-        if (s->state != TAG_ARBITRATE) to_arbitrate(s, 0);
-        return 0;
-    }
+    int a = front(s, m, mn, &y, out);
+    if (a) return a;
+    if (s->held) return 6;
+    if ((n - 1) / 8 >= fn) return 7;
+    if (f[0] >> 4 == 10) return selection(s, m, f, n);
     if (parse(f, n, &c)) return 7;
     if (field16(f, n - 16) != crc_bits(f, n - 16)) return 8;
     unsigned code = f[0];
@@ -576,7 +583,7 @@ static int byte_code(struct tag_session *s, uint8_t *m, const struct rival_layou
             s->covered = 1;
             s->cover = (uint16_t)fresh;
         } else {
-            s->state = word(m, y->reserved + 2) | word(m, y->reserved + 3) ? TAG_OPEN : TAG_SECURED;
+            s->state = word(m, y.reserved + 2) | word(m, y.reserved + 3) ? TAG_OPEN : TAG_SECURED;
             s->number = (uint16_t)fresh;
         }
         return 0;
@@ -587,7 +594,7 @@ static int byte_code(struct tag_session *s, uint8_t *m, const struct rival_layou
     if (code == 0xC9 && c.rfu) return 9;
     unsigned v = c.value ^ s->cover, halves = s->half, handle = s->number;
     if (halves) {
-        unsigned at = y->reserved + (halves == TAG_ACCESS_HALF ? 2 : 0);
+        unsigned at = y.reserved + (halves == TAG_ACCESS_HALF ? 2 : 0);
         if (code != (halves == TAG_ACCESS_HALF ? 0xC6u : 0xC4u) || s->upper != word(m, at) || v != word(m, at + 1)) {
             to_arbitrate(s, 0);
             return 12;
@@ -599,11 +606,11 @@ static int byte_code(struct tag_session *s, uint8_t *m, const struct rival_layou
     size_t bits = 33;
     switch (code) {
     case 0xC2:
-        e = read_error(m, y, secured, &c);
+        e = read_error(m, &y, secured, &c);
         bits = 33 + 16 * (size_t)c.count;
         break;
     case 0xC3:
-        e = write_error(m, y, secured, &c, v);
+        e = write_error(m, &y, secured, &c, v);
         words = 1;
         d.v = v;
         break;
@@ -613,27 +620,27 @@ static int byte_code(struct tag_session *s, uint8_t *m, const struct rival_layou
             d.v = 1;
         } else {
             bits = 32;
-            if (!(word(m, y->reserved) | word(m, y->reserved + 1))) e = 0;
+            if (!(word(m, y.reserved) | word(m, y.reserved + 1))) e = 0;
         }
         break;
     case 0xC5:
-        e = lock_error(m, y, &c, &to);
+        e = lock_error(m, &y, &c, &to);
         words = 1;
         d.v = to;
         break;
     case 0xC6: bits = 32; break;
     case 0xC7:
-        e = write_error(m, y, secured, &c, c.pointer < 2 && c.count > 1 - c.pointer ? field16(f, c.data + 16 * (1 - c.pointer)) : 0);
+        e = write_error(m, &y, secured, &c, c.pointer < 2 && c.count > 1 - c.pointer ? field16(f, c.data + 16 * (1 - c.pointer)) : 0);
         words = c.count;
         d.kind = 1;
         break;
     case 0xC8:
-        e = write_error(m, y, secured, &c, 0);
+        e = write_error(m, &y, secured, &c, 0);
         words = c.count;
         d.kind = 2;
         break;
     default:
-        e = perma_error(m, y, &c, f);
+        e = perma_error(m, &y, &c, f);
         if (c.locks)
             words = c.count, d.kind = 3;
         else
@@ -649,11 +656,11 @@ static int byte_code(struct tag_session *s, uint8_t *m, const struct rival_layou
     }
     if (rn < (bits + 7) / 8) return 4;
     if (words) {
-        bank_of(y, c.bank, &at, &size);
-        d.at = code == 0xC5 ? 16 : code == 0xC4 ? 17 : code == 0xC9 ? y->perma + c.pointer : at + c.pointer;
+        bank_of(&y, c.bank, &at, &size);
+        d.at = code == 0xC5 ? 16 : code == 0xC4 ? 17 : code == 0xC9 ? y.perma + c.pointer : at + c.pointer;
         d.from = f;
         d.bit = c.data;
-        run(m, y->work, &d, words, power);
+        run(m, y.work, &d, words, power);
         if (power < 3 * (size_t)words + 2) {
             out->stores = power;
             *s = off;
@@ -664,10 +671,10 @@ static int byte_code(struct tag_session *s, uint8_t *m, const struct rival_layou
     if (bits == 32) {
         reply_number(room, handle);
     } else if (code == 0xC2) {
-        bank_of(y, c.bank, &at, &size);
+        bank_of(&y, c.bank, &at, &size);
         reply_words(room, m + 2 * (at + c.pointer), c.count, handle);
     } else if (code == 0xC9 && !c.locks) {
-        reply_words(room, m + 2 * (y->perma + c.pointer), c.count, handle);
+        reply_words(room, m + 2 * (y.perma + c.pointer), c.count, handle);
     } else {
         reply_end(room, 0, AFTER_ZERO, handle);
     }
@@ -690,21 +697,17 @@ static int byte_code(struct tag_session *s, uint8_t *m, const struct rival_layou
 
 int NAME(frame)(struct tag_session *s, uint8_t *m, size_t mn, bytes f, size_t fn, size_t n, unsigned fresh, uint8_t *room, size_t rn,
                 size_t power, struct rival_out *out) {
+    if (n >= 40) return long_frame(s, m, mn, f, fn, n, fresh, room, rn, power, out); /* it is told the same: a jump */
     struct rival_layout y;
-    out->reply = out->stores = out->value = 0;
-    int a = NAME(check)(m, mn, &y);
+    int a = front(s, m, mn, &y, out);
     if (a) return a;
-    if (s->state == TAG_OFF || word(m, y.work)) return 5;
     if (s->held) return 6;
-    if (n < 4 || n / 8 + (n % 8 != 0) > fn) return 7;
-    if (f[0] >= 0xC0) return byte_code(s, m, &y, f, n, fresh, room, rn, power, out);
-    switch (f[0] >> 4) {
-    case 8: return query(s, f, n, fresh, room, rn, out);
-    case 9: return query_adjust(s, f, n, fresh, room, rn, out);
-    case 10: return selection(s, m, &y, f, n);
-    case 11: return 7;
-    default: return f[0] < 0x40 ? query_rep(s, f, n, fresh, room, rn, out) : ack(s, m, &y, f, n, room, rn, out);
-    }
+    if (n == 4) return fn && f[0] < 0x40 ? query_rep(s, f, fresh, room, rn, out) : 7;
+    if (!n || (n - 1) / 8 >= fn) return 7;
+    if (n == 18) return f[0] >> 6 == 1 ? ack(s, m, &y, f, room, rn, out) : 7;
+    if (n == 22) return f[0] >> 4 == 8 ? query(s, f, fresh, room, rn, out) : 7;
+    if (n == 9) return f[0] >> 4 == 9 ? query_adjust(s, f, fresh, room, rn, out) : 7;
+    return n == 8 && f[0] == 0xC0 ? nak(s) : 7;
 }
 
 /* ---- port ---- */
@@ -734,10 +737,8 @@ int NAME(register)(struct tag_session *s, struct rival_out *out) {
 
 int NAME(read)(struct tag_session *s, bytes m, size_t mn, size_t at, size_t count, uint8_t *room, size_t rn, struct rival_out *out) {
     struct rival_layout y;
-    out->reply = out->stores = out->value = 0;
-    int a = NAME(check)(m, mn, &y);
+    int a = front(s, m, mn, &y, out);
     if (a) return a;
-    if (s->state == TAG_OFF || word(m, y.work)) return 5;
     if (!s->held) return 6;
     if (count - 1 > 254 || at > y.user_words || at + count > y.user_words) return 13;
     if (rn < 2 * count) return 4;
@@ -753,10 +754,8 @@ int NAME(read)(struct tag_session *s, bytes m, size_t mn, size_t at, size_t coun
 
 int NAME(write)(struct tag_session *s, uint8_t *m, size_t mn, size_t at, bytes words, size_t wn, size_t power, struct rival_out *out) {
     struct rival_layout y;
-    out->reply = out->stores = out->value = 0;
-    int a = NAME(check)(m, mn, &y);
+    int a = front(s, m, mn, &y, out);
     if (a) return a;
-    if (s->state == TAG_OFF || word(m, y.work)) return 5;
     if (!s->held) return 6;
     size_t count = wn / 2;
     if (wn % 2 || count - 1 > 254 || at > y.user_words || at + count > y.user_words || count > y.pairs) return 13;
