@@ -22,10 +22,15 @@ static inline uint32_t four(bytes p) {
     return __builtin_bswap32(v);
 }
 
+/* of n bits; two bytes more can be read behind them */
 static uint16_t crc_bits(bytes p, size_t n) {
     uint16_t r = 0xFFFF;
 #if WORDS_AT_ONCE == 4
     for (; n >= 64; n -= 64, p += 8) r = step64(r, eight(p));
+    if (n >= 16) {
+        uint64_t v = n > 40 ? eight(p) >> (64 - n) : n > 32 ? ((uint64_t)four(p) << 8 | p[4]) >> (40 - n) : four(p) >> (32 - n);
+        return (uint16_t)~step64(0, (uint64_t)r << (n - 16) ^ v);
+    }
 #endif
     for (size_t k = n / 8; k; k--) r = step8(r, *p++);
     unsigned k = n % 8;
