@@ -1,5 +1,5 @@
 /* A tag's firmware around the library: the image in FRAM, one session, and a function for each thing that happens. main plays a gate that
-   writes USER word 3 while the power fails, and a reader that powers up and fetches the word. */
+   finds the tag and writes USER word 3 while the power fails, and a reader that powers up and fetches the word. */
 #include <stdio.h>
 #include "swellbinnacle.h"
 
@@ -17,18 +17,11 @@ static int on_power(size_t stores) {
     return o.answer;
 }
 
-/* The anticollision front end has admitted the tag under this number. */
-static int on_admission(uint16_t number) {
-    struct tag_outcome o = tag_admit(session, number);
-    session = o.session;
-    return o.answer;
-}
-
 /* A frame was demodulated. Hands back the bits to send from `room`; 0: be silent. */
 static size_t on_frame(const uint8_t *frame, size_t bits, uint16_t random, size_t stores) {
     struct tag_outcome o = tag_frame(session, image, IMAGE_BYTES, bits, frame, (bits + 7) / 8, random, room, sizeof room, stores);
     session = o.session;
-    printf("frame %02x: answer %d, %d bits, %d stores, state %d\n", bits < 8 ? 0 : frame[0], o.answer, (int)o.reply, (int)o.stores, session.state);
+    printf("frame %02x: answer %d, %d bits, %d stores, state %d\n", bits ? frame[0] : 0, o.answer, (int)o.reply, (int)o.stores, session.state);
     return o.reply;
 }
 
@@ -55,14 +48,17 @@ static void fill_image(void) {
 }
 
 int main(void) {
-    static const uint8_t number[] = {0xC1, 0xBE, 0xEF, 0x13, 0x67};                          /* Req_RN with the admission number */
-    static const uint8_t handle[] = {0xC1, 0x12, 0x34, 0x31, 0x62};                          /* Req_RN with the handle */
+    static const uint8_t query[] = {0x80, 0x00, 0x40};                                     /* Query: session S0, target A, Q = 0 */
+    static const uint8_t ack[] = {0x6F, 0xBB, 0xC0};                                       /* ACK with the number replied */
+    static const uint8_t number[] = {0xC1, 0xBE, 0xEF, 0x13, 0x67};                        /* Req_RN with the number replied */
+    static const uint8_t handle[] = {0xC1, 0x12, 0x34, 0x31, 0x62};                        /* Req_RN with the handle */
     static const uint8_t write[] = {0xC3, 0xC0, 0xFC, 0x65, 0xC4, 0x8D, 0x0C, 0xDE, 0x80}; /* Write ABCDh to USER 3, covered by 5A5Ah */
     uint8_t words[2];
     fill_image();
     printf("check: answer %d\n", tag_check(image, IMAGE_BYTES).answer);
     printf("power-up: answer %d\n", on_power(PLENTY));
-    printf("admission: answer %d\n", on_admission(0xBEEF));
+    on_frame(query, 22, 0xBEEF, PLENTY); /* the number replied is the random word */
+    on_frame(ack, 18, 0x0000, PLENTY);   /* the reply is PC, EPC and CRC-16 */
     on_frame(number, 40, 0x1234, PLENTY);
     on_frame(handle, 40, 0x5A5A, PLENTY);
     on_frame(write, 66, 0x0000, 3); /* the power fails after three of five stores */

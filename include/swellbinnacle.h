@@ -12,7 +12,7 @@
    The library allocates nothing, keeps nothing between calls and links nothing but memset.
 
    Answers, by number (RULES 5). "Everything stays": image, session and room are as before. A record that is no session's is Off, and comes
-   back as Off, all 0.
+   back as Off, every field 0.
       0 done
       1 the image is under 32 bytes                                     everything stays
       2 its header is wrong, or its length is not the image's           everything stays
@@ -21,8 +21,9 @@
       5 the session is Off, or a change is pending: power up            everything stays
       6 the port is held, or not held when needed, or not granted       everything stays
       7 unknown code, length or pointer wrong                           everything stays
-      8 CRC-16 wrong                                                    everything stays
-      9 wrong number or state, no cover number, zero range or RFU       everything stays
+      8 CRC-16 or CRC-5 wrong                                           everything stays
+      9 wrong number or state, no cover number, zero range or RFU, a set truncate bit, or a command that the state ignores
+                                                                        everything stays
      10 an error reply was given                                        the image stays; the cover number is used up
      11 the power was lost                                              the first stores were made; Off; no reply
      12 password wrong or halves broken                                 the image stays; Arbitrate; no reply
@@ -35,13 +36,13 @@
 #include <stdint.h>
 
 /* tag_session.state */
-enum { TAG_OFF, TAG_ARBITRATE, TAG_ACKNOWLEDGED, TAG_OPEN, TAG_SECURED, TAG_KILLED };
+enum { TAG_OFF, TAG_READY, TAG_ARBITRATE, TAG_REPLY, TAG_ACKNOWLEDGED, TAG_OPEN, TAG_SECURED, TAG_KILLED };
 
 /* tag_session.half */
 enum { TAG_NO_HALF, TAG_ACCESS_HALF, TAG_KILL_HALF };
 
-/* A session. Keep it from one call to the next; all bytes 0 is Off. A record that no session is written as, as with an unknown state or a
-   number where none belongs, is answered as Off. */
+/* A session. Keep it from one call to the next; all fields 0 is Off. A record that no session is written as, as with an unknown state or a
+   number where none belongs, is answered as Off. The byte of padding after `sl` means nothing. */
 struct tag_session {
     uint8_t state;     /* TAG_OFF .. */
     uint8_t held;      /* 1: the port is held */
@@ -49,9 +50,17 @@ struct tag_session {
     uint8_t killed;    /* 1: register bit 0, killed */
     uint8_t covered;   /* 1: there is a cover number (Open, Secured) */
     uint8_t half;      /* TAG_NO_HALF .. : the password half that waits (Open, Secured) */
-    uint16_t number;   /* Acknowledged: the admission number; Open, Secured: the handle; else 0 */
+    uint8_t round;     /* Arbitrate to Secured: the round's session, 0 to 3; else 0 */
+    uint8_t q;         /* Arbitrate to Secured: the round's Q, 0 to 15; else 0 */
+    uint8_t s0;        /* the inventoried flags of the sessions S0 to S3, 0: A, 1: B; 0 in Off */
+    uint8_t s1;
+    uint8_t s2;
+    uint8_t s3;
+    uint8_t sl;        /* 1: SL is asserted; 0 in Off */
+    uint16_t number;   /* Reply, Acknowledged: the number replied; Open, Secured: the handle; else 0 */
     uint16_t cover;    /* the cover number; 0 where there is none */
     uint16_t upper;    /* the half that waits, uncovered; 0 where there is none */
+    uint16_t slot;     /* Arbitrate: the slot counter, 0 to 7FFFh; else 0 */
 };
 
 /* What a call hands back. Padding is not set: compare fields, not bytes. */
@@ -85,20 +94,19 @@ struct tag_sheet {
 /* The image check. Answers 0 to 3. The image is only read. */
 struct tag_sheet tag_check(const uint8_t *image, size_t image_bytes);
 
-/* Power-up, with power for `stores` word stores: finishes a pending change, stores the EPC's CRC-16, and gives the first session, Arbitrate
-   or Killed. Answers 0, 1, 2, 3, 11; after any but 0 the session is Off. */
+/* Power-up, with power for `stores` word stores: finishes a pending change, stores the EPC's CRC-16, and gives the first session, Ready or
+   Killed, with every inventoried flag A and SL deasserted. Answers 0, 1, 2, 3, 11; after any but 0 the session is Off. */
 struct tag_outcome tag_power_up(uint8_t *image, size_t image_bytes, size_t stores);
 
-/* An admission with a 16-bit number: Arbitrate becomes Acknowledged. Answers 0, 5, 6, 9. */
-struct tag_outcome tag_admit(struct tag_session session, uint16_t number);
-
-/* A radio frame of `bits` bits, the first bit highest. `fresh` is a random word, new for each call; the reply goes to the room; the power
-   lasts `stores` word stores. Answers 0 to 12. A Read of n words has a reply of 33 + 16 * n bits: 8,197 bytes hold any reply. */
+/* A radio frame of `bits` bits, the first bit highest. The shortest has 4 (QueryRep); spare bits of the last byte mean nothing. `fresh` is a
+   random word, new for each call: the slot is drawn from its low bits, and it is the number replied, the handle or the cover number. The reply
+   goes to the room; the power lasts `stores` word stores. Answers 0 to 12. A Read of n words has a reply of 33 + 16 * n bits: 8,197 bytes hold
+   any reply. */
 struct tag_outcome tag_frame(struct tag_session session, uint8_t *image, size_t image_bytes, size_t bits, const uint8_t *frame,
                              size_t frame_bytes, uint16_t fresh, uint8_t *room, size_t room_bytes, size_t stores);
 
-/* Asks for the SPI port: granted unless it is held, or the state is Open or Secured. Answers 0, 5, 6. While it is held, frames and admissions
-   are answered 6. */
+/* Asks for the SPI port: granted unless it is held, or the state is Open or Secured. Answers 0, 5, 6. While it is held, frames are answered
+   6. */
 struct tag_outcome tag_ask(struct tag_session session);
 
 /* Gives the port back. Answers 0, 5, 6. */
@@ -120,16 +128,20 @@ struct tag_outcome tag_write(struct tag_session session, uint8_t *image, size_t 
 
 /* The layout that the library was compiled for: x86-64, in C11. */
 _Static_assert(sizeof(size_t) == 8, "size_t");
-_Static_assert(sizeof(struct tag_session) == 12 && _Alignof(struct tag_session) == 2, "tag_session");
+_Static_assert(sizeof(struct tag_session) == 22 && _Alignof(struct tag_session) == 2, "tag_session");
 _Static_assert(offsetof(struct tag_session, state) == 0 && offsetof(struct tag_session, held) == 1, "state, held");
 _Static_assert(offsetof(struct tag_session, unwritten) == 2 && offsetof(struct tag_session, killed) == 3, "unwritten, killed");
 _Static_assert(offsetof(struct tag_session, covered) == 4 && offsetof(struct tag_session, half) == 5, "covered, half");
-_Static_assert(offsetof(struct tag_session, number) == 6 && offsetof(struct tag_session, cover) == 8, "number, cover");
-_Static_assert(offsetof(struct tag_session, upper) == 10, "upper");
-_Static_assert(sizeof(struct tag_outcome) == 40 && _Alignof(struct tag_outcome) == 8, "tag_outcome");
+_Static_assert(offsetof(struct tag_session, round) == 6 && offsetof(struct tag_session, q) == 7, "round, q");
+_Static_assert(offsetof(struct tag_session, s0) == 8 && offsetof(struct tag_session, s1) == 9, "s0, s1");
+_Static_assert(offsetof(struct tag_session, s2) == 10 && offsetof(struct tag_session, s3) == 11, "s2, s3");
+_Static_assert(offsetof(struct tag_session, sl) == 12 && offsetof(struct tag_session, number) == 14, "sl, number");
+_Static_assert(offsetof(struct tag_session, cover) == 16 && offsetof(struct tag_session, upper) == 18, "cover, upper");
+_Static_assert(offsetof(struct tag_session, slot) == 20, "slot");
+_Static_assert(sizeof(struct tag_outcome) == 48 && _Alignof(struct tag_outcome) == 8, "tag_outcome");
 _Static_assert(offsetof(struct tag_outcome, answer) == 0 && offsetof(struct tag_outcome, session) == 2, "answer, session");
-_Static_assert(offsetof(struct tag_outcome, reply) == 16 && offsetof(struct tag_outcome, stores) == 24, "reply, stores");
-_Static_assert(offsetof(struct tag_outcome, value) == 32, "value");
+_Static_assert(offsetof(struct tag_outcome, reply) == 24 && offsetof(struct tag_outcome, stores) == 32, "reply, stores");
+_Static_assert(offsetof(struct tag_outcome, value) == 40, "value");
 _Static_assert(sizeof(struct tag_place) == 4 && offsetof(struct tag_place, at) == 0 && offsetof(struct tag_place, words) == 2, "tag_place");
 _Static_assert(sizeof(struct tag_sheet) == 32 && _Alignof(struct tag_sheet) == 2, "tag_sheet");
 _Static_assert(offsetof(struct tag_sheet, answer) == 0 && offsetof(struct tag_sheet, block) == 2, "answer, block");

@@ -12,7 +12,7 @@ static unsigned below(unsigned n) {
 static unsigned any16(void) { return below(256) << 8 | below(256); }
 static int one_in(unsigned n) { return below(n) == 0; }
 
-/* ---- frames: bits, and a CRC-16 bit by bit ---- */
+/* ---- frames: bits, and a CRC-16 or CRC-5 bit by bit ---- */
 
 void frame_start(struct frame *f) { memset(f, 0, sizeof *f); }
 
@@ -30,6 +30,15 @@ void frame_end(struct frame *f) {
         r = ((r << 1) ^ ((r >> 15 ^ b) ? 0x1021 : 0)) & 0xFFFF;
     }
     frame_bits(f, r ^ 0xFFFF, 16);
+}
+
+void frame_end5(struct frame *f) {
+    unsigned r = 0x09;
+    for (size_t i = 0; i < f->n; i++) {
+        unsigned b = f->bytes[i / 8] >> (7 - i % 8) & 1;
+        r = ((r << 1) ^ ((r >> 4 ^ b) ? 0x09 : 0)) & 31;
+    }
+    frame_bits(f, r, 5);
 }
 
 void frame_pointer(struct frame *f, unsigned v, unsigned least) {
@@ -87,17 +96,30 @@ static size_t image_random(uint8_t *m) {
     return n > 9604 ? 9604 : n;
 }
 
+/* ---- sessions ---- */
+
+static int has_round(const struct tag_session *s) { return s->state >= TAG_ARBITRATE && s->state <= TAG_SECURED; }
+static int has_link(const struct tag_session *s) { return s->state == TAG_OPEN || s->state == TAG_SECURED; }
+
 static struct tag_session session_random(const uint8_t *m) {
-    static const uint8_t states[] = {0, 1, 1, 2, 2, 3, 3, 3, 4, 4, 4, 4, 4, 4, 5};
+    static const uint8_t states[] = {0, 1, 1, 1, 2, 2, 2, 3, 3, 3, 4, 4, 4, 5, 5, 5, 5, 5, 6, 6, 6, 6, 6, 6, 6, 6, 6, 7, 7};
     struct tag_session s = {0};
     s.state = states[below(sizeof states)];
     if (!s.state) return s;
-    s.held = (uint8_t)(s.state == TAG_OPEN || s.state == TAG_SECURED ? one_in(12) : one_in(2));
+    s.held = (uint8_t)(has_link(&s) ? one_in(12) : one_in(3));
     s.unwritten = (uint8_t)one_in(4);
     s.killed = (uint8_t)one_in(4);
-    if (s.state == TAG_ARBITRATE || s.state == TAG_KILLED) return s;
-    s.number = (uint16_t)any16();
-    if (s.state == TAG_ACKNOWLEDGED) return s;
+    s.s0 = (uint8_t)below(2);
+    s.s1 = (uint8_t)below(2);
+    s.s2 = (uint8_t)below(2);
+    s.s3 = (uint8_t)below(2);
+    s.sl = (uint8_t)below(2);
+    if (!has_round(&s)) return s;
+    s.round = (uint8_t)below(4);
+    s.q = (uint8_t)(one_in(2) ? below(3) : below(16));
+    if (s.state == TAG_ARBITRATE) s.slot = (uint16_t)(one_in(2) ? below(3) : any16() >> 1);
+    else s.number = (uint16_t)any16();
+    if (!has_link(&s)) return s;
     if (!one_in(4)) s.covered = 1, s.cover = (uint16_t)any16();
     if (one_in(4)) {
         s.half = (uint8_t)(1 + below(2));
@@ -106,30 +128,86 @@ static struct tag_session session_random(const uint8_t *m) {
     return s;
 }
 
-/* a record that is no session */
-static struct tag_session session_broken(struct tag_session s) {
-    struct tag_session bare = {s.state == TAG_KILLED ? TAG_KILLED : TAG_ARBITRATE, s.held, s.unwritten, s.killed, 0, 0, 0, 0, 0};
-    switch (below(10)) {
-    case 0: s.state = (uint8_t)(6 + below(250)); break;
-    case 1: s.held = (uint8_t)(2 + below(254)); break;
-    case 2: s.killed = (uint8_t)(2 + below(254)); break;
-    case 3: s.unwritten = (uint8_t)(2 + below(254)); break;
-    case 4: s.covered = (uint8_t)(2 + below(254)); break;
-    case 5: s.half = (uint8_t)(3 + below(253)); break;
-    case 6: s.covered = 0, s.cover = 7; break;
-    case 7: s.half = 0, s.upper = 7; break;
-    case 8: bare.number = (uint16_t)(1 + below(65535)); return bare;
-    default: bare.state = TAG_ACKNOWLEDGED, bare.half = 1; return bare;
-    }
-    return s;
+/* another value in one field. Rounds, Qs and slots that no tag comes to are left out where they belong. */
+static void field_random(struct tag_session *s) {
+    uint8_t *small[] = {&s->state, &s->held, &s->unwritten, &s->killed, &s->covered, &s->half, &s->round,
+                        &s->q,     &s->s0,   &s->s1,        &s->s2,     &s->s3,      &s->sl};
+    uint16_t *large[] = {&s->number, &s->cover, &s->upper, &s->slot};
+    unsigned i = below(17);
+    if (i < 13) *small[i] = (uint8_t)(one_in(2) ? below(9) : below(256));
+    else *large[i - 13] = (uint16_t)(one_in(2) ? below(3) : any16());
+    if (has_round(s)) s->round &= 3, s->q &= 15;
+    if (s->state == TAG_ARBITRATE) s->slot &= 0x7FFF;
 }
 
-static void frame_random(struct frame *f, const uint8_t *m, const struct tag_session *s) {
+/* a record that no session is written as; the library takes it for Off, and the rivals are handed Off */
+static int no_session(const struct tag_session *s) {
+    int flags = s->s0 | s->s1 | s->s2 | s->s3 | s->sl, port = s->held | s->unwritten | s->killed;
+    if (s->state > TAG_KILLED || s->half > TAG_KILL_HALF || (flags | port | s->covered) > 1) return 1;
+    if (s->state == TAG_OFF && (flags | port)) return 1;
+    if (!has_round(s) && (s->round | s->q)) return 1;
+    if (!has_link(s) && (s->covered | s->half)) return 1;
+    if ((!has_round(s) || s->state == TAG_ARBITRATE) && s->number) return 1;
+    return (!s->covered && s->cover) || (!s->half && s->upper) || (s->state != TAG_ARBITRATE && s->slot);
+}
+
+static int same_session(const struct tag_session *a, const struct tag_session *b) {
+    return a->state == b->state && a->held == b->held && a->unwritten == b->unwritten && a->killed == b->killed && a->covered == b->covered &&
+           a->half == b->half && a->round == b->round && a->q == b->q && a->s0 == b->s0 && a->s1 == b->s1 && a->s2 == b->s2 && a->s3 == b->s3 &&
+           a->sl == b->sl && a->number == b->number && a->cover == b->cover && a->upper == b->upper && a->slot == b->slot;
+}
+
+/* ---- frames of every kind ---- */
+
+/* a mask on the bits of a bank, mostly inside it and mostly theirs */
+static void select_random(struct frame *f, const uint8_t *m) {
+    unsigned bank = one_in(16) ? 0 : 1 + below(3), from = 16 * word(m, 4 + 2 * bank), bits = 16 * word(m, 5 + 2 * bank);
+    unsigned length = one_in(3) ? below(256) : one_in(4) ? 0 : below(70), at = one_in(8) ? any16() : below(bits + 9);
+    if (!one_in(6) && length <= bits) at = one_in(4) ? bits - length : below(bits - length + 1);
+    unsigned other = one_in(3) && length ? below(length) : length;
+    frame_bits(f, 10, 4);
+    frame_bits(f, one_in(16) ? below(8) : below(5), 3);
+    frame_bits(f, below(8), 3);
+    frame_bits(f, bank, 2);
+    frame_pointer(f, at, 1 + below(3) * below(2));
+    frame_bits(f, length, 8);
+    for (unsigned j = 0; j < length; j++) {
+        size_t i = from + at + j;
+        frame_bits(f, ((i < 8 * 9604 ? m[i / 8] >> (7 - i % 8) & 1 : 0) ^ (j == other)) & 1, 1);
+    }
+    frame_bits(f, one_in(16), 1);
+    frame_end(f);
+}
+
+static void inventory_random(struct frame *f, const uint8_t *m, const struct tag_session *s) {
+    static const uint8_t turns[] = {6, 0, 3};
+    unsigned round = one_in(4) ? below(4) : s->round;
+    switch (below(5)) {
+    case 0: frame_bits(f, 0, 2), frame_bits(f, round, 2); break;
+    case 1: frame_bits(f, 1, 2), frame_bits(f, one_in(4) ? any16() : s->number, 16); break;
+    case 2:
+        frame_bits(f, 8, 4);
+        frame_bits(f, below(16), 4);
+        frame_bits(f, below(4), 2);
+        frame_bits(f, round, 2);
+        frame_bits(f, below(2), 1);
+        frame_bits(f, one_in(2) ? below(3) : below(16), 4);
+        frame_end5(f);
+        break;
+    case 3:
+        frame_bits(f, 9, 4);
+        frame_bits(f, round, 2);
+        frame_bits(f, one_in(4) ? below(8) : turns[below(3)], 3);
+        break;
+    default: select_random(f, m);
+    }
+}
+
+static void command_random(struct frame *f, const uint8_t *m, const struct tag_session *s) {
     static const uint8_t likely[] = {1, 2, 3, 3, 4, 4, 5, 6, 6, 7, 7, 8, 9, 9};
     unsigned code = one_in(30) ? below(256) : one_in(20) ? 0xC0 : 0xC0 + likely[below(sizeof likely)];
     unsigned bank = below(4), words = word(m, 5 + 2 * bank), least = 1 + below(3) * below(2), count = one_in(3) ? below(256) : below(20);
     unsigned at = one_in(3) ? below(words + 3) : below(words < 4 ? words + 1 : 4);
-    frame_start(f);
     frame_bits(f, code, 8);
     if (code == 0xC0 && !one_in(3)) return;
     switch (code) {
@@ -166,8 +244,16 @@ static void frame_random(struct frame *f, const uint8_t *m, const struct tag_ses
     }
     frame_bits(f, one_in(20) ? any16() : s->number, 16);
     frame_end(f);
-    if (one_in(20)) f->bytes[below((unsigned)(f->n + 7) / 8)] ^= (uint8_t)(1u << below(8));
+}
+
+/* a frame, sometimes with a bit changed, of another length, or of some bits alone */
+static void frame_random(struct frame *f, const uint8_t *m, const struct tag_session *s) {
+    frame_start(f);
+    if (one_in(2)) inventory_random(f, m, s);
+    else command_random(f, m, s);
+    if (one_in(14)) f->bytes[below((unsigned)(f->n + 7) / 8)] ^= (uint8_t)(1u << below(8));
     if (one_in(30)) f->n = f->n + below(20) - 10;
+    if (one_in(30)) f->n = below(10), f->bytes[0] = (uint8_t)below(256);
     if (f->n > 8 * sizeof f->bytes) f->n = 0;
 }
 
@@ -178,7 +264,7 @@ static int differences;
 static unsigned seen[16];
 
 static void compare(const char *call, const struct tag_outcome *o, int way, int answer, const struct tag_session *s, const struct rival_out *out) {
-    if (o->answer == answer && !memcmp(&o->session, s, sizeof *s) && o->reply == out->reply && o->stores == out->stores && o->value == out->value &&
+    if (o->answer == answer && same_session(&o->session, s) && o->reply == out->reply && o->stores == out->stores && o->value == out->value &&
         !memcmp(image[0], image[way], sizeof image[0]) && !memcmp(room[0], room[way], sizeof room[0]))
         return;
     if (differences++ < 10)
@@ -194,19 +280,19 @@ static int same_layout(const struct tag_sheet *t, const struct rival_layout *y) 
 }
 
 static void one(void) {
+    static const struct tag_session off;
     static struct frame f;
     static uint8_t words[520];
     struct rival_out out[2] = {{0}};
-    size_t n = image_random(before), power = one_in(3) ? below(60) : 9999, at = below(70), count = one_in(4) ? below(300) : below(20);
-    struct tag_session first = session_random(before), s[2] = {first, first}, given = first;
-    if (one_in(10)) {
-        memset(s, 0, sizeof s);
-        given = session_broken(first);
-        if (!first.state) given.state = 77;
-    }
-    size_t rn = one_in(3) ? below(12) : one_in(3) ? below(600) : sizeof room[0];
+    size_t n = image_random(before), power = one_in(3) ? below(one_in(2) ? 6 : 60) : 9999, at = below(70), count = one_in(4) ? below(300) : below(20);
+    unsigned fresh = one_in(2) ? any16() : any16() << below(16) & 0xFFFF;
+    struct tag_session given = session_random(before), s[2];
+    if (one_in(8))
+        for (unsigned k = 1 + below(2); k; k--) field_random(&given);
+    s[0] = s[1] = no_session(&given) ? off : given;
+    size_t rn = one_in(6) ? below(3) : one_in(4) ? below(one_in(2) ? 12 : 80) : one_in(4) ? below(600) : sizeof room[0];
     for (int i = 0; i < 3; i++) memcpy(image[i], before, sizeof before), memset(room[i], 0xA5, sizeof room[i]);
-    frame_random(&f, before, &first);
+    frame_random(&f, before, &given);
     for (size_t i = 0; i < sizeof words; i++) words[i] = (uint8_t)below(256);
     size_t fn = one_in(30) ? below(8) : (f.n + 7) / 8, wn = 2 * count + one_in(20);
     if (fn > sizeof f.bytes) fn = sizeof f.bytes;
@@ -215,7 +301,7 @@ static void one(void) {
     struct rival_layout y[2];
     int a[2];
     const char *call;
-    switch (below(14)) {
+    switch (below(20)) {
     case 0:
         call = "power_up";
         o = tag_power_up(image[0], n, power);
@@ -223,44 +309,38 @@ static void one(void) {
         a[1] = wide_power_up(&s[1], image[2], n, power, &out[1]);
         break;
     case 1:
-        call = "admit";
-        o = tag_admit(given, (uint16_t)at);
-        a[0] = table_admit(&s[0], (unsigned)at);
-        a[1] = wide_admit(&s[1], (unsigned)at);
-        break;
-    case 2:
         call = "ask";
         o = tag_ask(given);
         a[0] = table_ask(&s[0]);
         a[1] = wide_ask(&s[1]);
         break;
-    case 3:
+    case 2:
         call = "release";
         o = tag_release(given);
         a[0] = table_release(&s[0]);
         a[1] = wide_release(&s[1]);
         break;
-    case 4:
+    case 3:
         call = "register";
         o = tag_register(given);
         a[0] = table_register(&s[0], &out[0]);
         a[1] = wide_register(&s[1], &out[1]);
         break;
+    case 4:
     case 5:
-    case 6:
         call = "read";
         o = tag_read(given, image[0], n, at, count, room[0], rn);
         a[0] = table_read(&s[0], image[1], n, at, count, room[1], rn, &out[0]);
         a[1] = wide_read(&s[1], image[2], n, at, count, room[2], rn, &out[1]);
         break;
+    case 6:
     case 7:
-    case 8:
         call = "write";
         o = tag_write(given, image[0], n, at, words, wn, power);
         a[0] = table_write(&s[0], image[1], n, at, words, wn, power, &out[0]);
         a[1] = wide_write(&s[1], image[2], n, at, words, wn, power, &out[1]);
         break;
-    case 9: {
+    case 8: {
         struct tag_sheet t = tag_check(image[0], n);
         if (t.answer != table_check(before, n, &y[0]) || t.answer != wide_check(before, n, &y[1]) ||
             (!t.answer && !(same_layout(&t, &y[0]) && same_layout(&t, &y[1]))))
@@ -270,9 +350,9 @@ static void one(void) {
     }
     default:
         call = "frame";
-        o = tag_frame(given, image[0], n, f.n, f.bytes, fn, (uint16_t)at, room[0], rn, power);
-        a[0] = table_frame(&s[0], image[1], n, f.bytes, fn, f.n, (unsigned)at, room[1], rn, power, &out[0]);
-        a[1] = wide_frame(&s[1], image[2], n, f.bytes, fn, f.n, (unsigned)at, room[2], rn, power, &out[1]);
+        o = tag_frame(given, image[0], n, f.n, f.bytes, fn, (uint16_t)fresh, room[0], rn, power);
+        a[0] = table_frame(&s[0], image[1], n, f.bytes, fn, f.n, fresh, room[1], rn, power, &out[0]);
+        a[1] = wide_frame(&s[1], image[2], n, f.bytes, fn, f.n, fresh, room[2], rn, power, &out[1]);
     }
     seen[o.answer]++;
     for (int i = 0; i < 2; i++) compare(call, &o, i + 1, a[i], &s[i], &out[i]);

@@ -17,7 +17,6 @@ struct rival_layout {
 #define RIVAL(way)                                                                                                                        \
     int way##_check(const uint8_t *, size_t, struct rival_layout *);                                                                       \
     int way##_power_up(struct tag_session *, uint8_t *, size_t, size_t, struct rival_out *);                                                \
-    int way##_admit(struct tag_session *, unsigned);                                                                                       \
     int way##_frame(struct tag_session *, uint8_t *, size_t, const uint8_t *, size_t, size_t, unsigned, uint8_t *, size_t, size_t,          \
                     struct rival_out *);                                                                                                   \
     int way##_ask(struct tag_session *);                                                                                                   \

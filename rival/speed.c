@@ -6,6 +6,7 @@
 #include "agree.h"
 
 #define TURNS 1001
+#define EPC_WORDS 6
 
 /* what a call is handed; here[0] is on the small image, here[1] on the largest */
 static struct given {
@@ -109,19 +110,21 @@ static void put(size_t i, unsigned v) {
 }
 static unsigned word(size_t i) { return in->image[2 * i] * 256u + in->image[2 * i + 1]; }
 
-/* small: 64 words of USER in 4 blocks; large: the largest that there is. Both have 255 pairs in WORK. */
+static unsigned epc_word(unsigned i) { return 0x3034u + 0x1F3Du * i; }
+
+/* small: 64 words of USER in 4 blocks; large: the largest that there is. Both have an EPC of 6 words and 255 pairs in WORK. */
 static void fill(int large) {
     in = &here[large];
-    in->bytes = large ? image_make(in->image, 16, 64, 33, 64, 4096, 255) : image_make(in->image, 16, 4, 4, 2, 64, 255);
+    in->bytes = large ? image_make(in->image, 16, 64, 33, 64, 4096, 255) : image_make(in->image, 16, 4, 8, 2, 64, 255);
     unsigned user = word(10), n = word(11);
-    put(word(6) + 1, 2 << 11);
+    put(word(6) + 1, EPC_WORDS << 11);
+    for (unsigned i = 0; i < EPC_WORDS; i++) put(word(6) + 2 + i, epc_word(i));
     for (unsigned i = 0; i < n; i++) put(user + i, 0x9E37u * i);
     if (locked) put(word(14) - 1, 1u << (15 - (n / 16 - 1) % 16));
 }
 
 static void secured(unsigned code) {
-    struct tag_session s = {TAG_SECURED, 0, 0, 0, 1, 0, 0x1234, 0x5A5A, 0};
-    in->session = s;
+    in->session = (struct tag_session){.state = TAG_SECURED, .covered = 1, .number = 0x1234, .cover = 0x5A5A};
     frame_start(&in->frame);
     frame_bits(&in->frame, code, 8);
 }
@@ -139,14 +142,51 @@ static const struct call {
     const runner *run;
 } calls[] = {{"check, nothing pending", checks}, {"check, 255 pending", checks}, {"Req_RN", frames},         {"Write", frames},
              {"BlockWrite, 16 words", frames},   {"Read, 8 words", frames},      {"Read, 4,096 words", frames}, {"SPI read, 64 words", reads},
-             {"SPI write, 64 words", writes}};
+             {"SPI write, 64 words", writes},    {"Query", frames},              {"QueryRep, no reply", frames}, {"ACK, L = 6", frames},
+             {"Select, 96 bits", frames}};
 
-enum { PENDING = 1, REQ_RN, WRITE, BLOCK_WRITE, READ, READ_ALL, SPI_READ, CALLS = sizeof calls / sizeof calls[0] };
+enum {
+    PENDING = 1, REQ_RN, WRITE, BLOCK_WRITE, READ, READ_ALL, SPI_READ, SPI_WRITE, QUERY, QUERY_REP, ACK, SELECT,
+    CALLS = sizeof calls / sizeof calls[0]
+};
+
+/* session and frame of an inventory's call */
+static void inventory(int call) {
+    static const uint8_t states[] = {TAG_READY, TAG_ARBITRATE, TAG_REPLY, TAG_READY};
+    in->session = (struct tag_session){.state = states[call - QUERY]};
+    frame_start(&in->frame);
+    switch (call) {
+    case QUERY: /* S2 and Q = 2: the fresh word 1234h has slot 0 */
+        frame_bits(&in->frame, 0x80, 8);
+        frame_bits(&in->frame, 0x21, 8);
+        frame_bits(&in->frame, 0, 1);
+        frame_end5(&in->frame);
+        break;
+    case QUERY_REP:
+        in->session.slot = 5;
+        in->session.q = 4;
+        in->session.round = 2;
+        frame_bits(&in->frame, 2, 4);
+        break;
+    case ACK:
+        in->session.number = 0x1234;
+        frame_bits(&in->frame, 1, 2);
+        frame_bits(&in->frame, 0x1234, 16);
+        break;
+    case SELECT: /* SL, action 000, the EPC from bit 32 on */
+        frame_bits(&in->frame, 0xA81, 12);
+        frame_pointer(&in->frame, 32, 1);
+        frame_bits(&in->frame, 16 * EPC_WORDS, 8);
+        for (unsigned i = 0; i < EPC_WORDS; i++) frame_bits(&in->frame, epc_word(i), 16);
+        frame_bits(&in->frame, 0, 1);
+        frame_end(&in->frame);
+    }
+}
 
 /* image, session and frame of a call */
 static void prepare(int call, int large) {
     static const uint8_t codes[] = {0, 0, 0xC1, 0xC3, 0xC7, 0xC2, 0xC2};
-    static const struct tag_session held = {TAG_ARBITRATE, 1, 0, 0, 0, 0, 0, 0, 0};
+    static const struct tag_session held = {.state = TAG_READY, .held = 1};
     fill(large);
     if (call == PENDING) {
         put(word(14), 255);
@@ -154,6 +194,7 @@ static void prepare(int call, int large) {
     }
     in->session = held;
     memset(words, 0x5C, sizeof words);
+    if (call >= QUERY) inventory(call);
     if (call < REQ_RN || call >= SPI_READ) return;
     secured(codes[call]);
     if (call > REQ_RN) {
@@ -201,8 +242,15 @@ static int times(void) {
 __attribute__((noinline)) static void counted_from(void) { __asm__ volatile("nop"); }
 __attribute__((noinline)) static void counted_to(void) { __asm__ volatile("nop"); }
 
-/* the digit of an argument, below n; or n */
-static int digit(const char *word, int n) { return word[0] >= '0' && word[0] < '0' + n && !word[1] ? word[0] - '0' : n; }
+/* the number of an argument, below n; or n */
+static int number(const char *word, int n) {
+    int v = 0;
+    do {
+        if (*word < '0' || *word > '9') return n;
+        v = 10 * v + (*word - '0');
+    } while (v < n && *++word);
+    return v < n ? v : n;
+}
 
 /* one call on one image in one way, between the marks */
 static int counted(int call, int image, int way) {
@@ -221,8 +269,8 @@ int main(int argc, char **argv) {
     if (argc == 2 && !strcmp(argv[1], "more")) return agree(300000) != 0;
     locked = argc == 2 && !strcmp(argv[1], "locked");
     if (locked || (argc == 2 && !strcmp(argv[1], "times"))) return times();
-    if (argc == 4 && digit(argv[1], CALLS) < CALLS && digit(argv[2], 2) < 2 && digit(argv[3], 3) < 3)
-        return counted(digit(argv[1], CALLS), digit(argv[2], 2), digit(argv[3], 3));
+    if (argc == 4 && number(argv[1], CALLS) < CALLS && number(argv[2], 2) < 2 && number(argv[3], 3) < 3)
+        return counted(number(argv[1], CALLS), number(argv[2], 2), number(argv[3], 3));
     printf("speed agree: random calls\nspeed more: ten times as many\nspeed times: best times, library and rivals\n"
            "speed locked: the same with USER's last block permalocked\n"
            "speed CALL IMAGE WAY: one call, for its instructions\n");

@@ -1,5 +1,7 @@
-/* The rival's tag, over the CRC-16 steps of the file that includes it. */
+/* The rival's tag, over the CRC-16 steps and the CRC-5 of the file that includes it. */
 #include <string.h>
+
+#define INLINED static inline __attribute__((always_inline))
 
 typedef const uint8_t *bytes;
 
@@ -14,19 +16,76 @@ static inline uint64_t eight(bytes p) {
     return __builtin_bswap64(v);
 }
 
-static uint16_t crc_bytes(uint16_t r, bytes p, size_t n) {
-#if WORDS_AT_ONCE == 4
-    for (; n >= 8; n -= 8, p += 8) r = step64(r, eight(p));
-#endif
-    while (n--) r = step8(r, *p++);
-    return r;
+static inline uint32_t four(bytes p) {
+    uint32_t v;
+    memcpy(&v, p, 4);
+    return __builtin_bswap32(v);
 }
 
+/* of n bits; two bytes more can be read behind them */
 static uint16_t crc_bits(bytes p, size_t n) {
-    uint16_t r = crc_bytes(0xFFFF, p, n / 8);
+    uint16_t r = 0xFFFF;
+#if WORDS_AT_ONCE == 4
+    for (; n >= 64; n -= 64, p += 8) r = step64(r, eight(p));
+    if (n >= 16) {
+        uint64_t v = n > 40 ? eight(p) >> (64 - n) : n > 32 ? ((uint64_t)four(p) << 8 | p[4]) >> (40 - n) : four(p) >> (32 - n);
+        return (uint16_t)~step64(0, (uint64_t)r << (n - 16) ^ v);
+    }
+#endif
+    for (size_t k = n / 8; k; k--) r = step8(r, *p++);
     unsigned k = n % 8;
-    if (k) r = step_few(r, p[n / 8] >> (8 - k), k);
+    if (k) r = step_few(r, *p >> (8 - k), k);
     return (uint16_t)~r;
+}
+
+static inline unsigned field16(bytes f, size_t at) {
+    unsigned k = at % 8;
+    f += at / 8;
+    unsigned v = (unsigned)f[0] << 16 | (unsigned)f[1] << 8 | (k ? f[2] : 0);
+    return v >> (8 - k) & 0xFFFF;
+}
+
+static inline unsigned field(bytes f, size_t at, unsigned n) {
+    unsigned k = at % 8;
+    f += at / 8;
+    unsigned v = (unsigned)f[0] << 16 | (k + n > 8 ? (unsigned)f[1] << 8 : 0) | (k + n > 16 ? f[2] : 0);
+    return v >> (24 - k - n) & ((1u << n) - 1);
+}
+
+/* an EBV-8 pointer at bit `at`; its bytes, or 0 */
+static inline unsigned pointer(bytes f, size_t at, unsigned *value) {
+    unsigned v = 0;
+    for (unsigned e = 1; e <= 3; e++, at += 8) {
+        unsigned b = field(f, at, 8);
+        v = v << 7 | (b & 127);
+        if (b < 128) {
+            *value = v;
+            return e;
+        }
+    }
+    return 0;
+}
+
+/* 32 or 64 bits from bit `at` on; five bytes, or nine, can be read there */
+static inline uint32_t bits32(bytes p, size_t at) {
+    p += at / 8;
+    return (uint32_t)(((uint64_t)four(p) << 8 | p[4]) >> (8 - at % 8));
+}
+static inline uint64_t bits64(bytes p, size_t at) {
+    p += at / 8;
+    return eight(p) << at % 8 | p[8] >> (8 - at % 8);
+}
+
+/* n bits of a from bit i on are those of b from bit j on; two bytes more can be read behind both */
+INLINED int same_bits(bytes a, size_t i, bytes b, size_t j, size_t n) {
+    if (n >= 64) {
+        for (; n > 64; n -= 64, i += 64, j += 64)
+            if (bits64(a, i) != bits64(b, j)) return 0;
+        return bits64(a, i + n - 64) == bits64(b, j + n - 64); /* the last 64, some of them again */
+    }
+    if (n >= 32) return bits32(a, i) == bits32(b, j) && bits32(a, i + n - 32) == bits32(b, j + n - 32);
+    if (n >= 16) return field16(a, i) == field16(b, j) && field16(a, i + n - 16) == field16(b, j + n - 16);
+    return !n || field(a, i, (unsigned)n) == field(b, j, (unsigned)n);
 }
 
 /* ---- image ---- */
@@ -88,13 +147,6 @@ struct change {
     const uint8_t *mask;
 };
 
-static inline unsigned field16(bytes f, size_t at) {
-    unsigned k = at % 8;
-    f += at / 8;
-    unsigned v = (unsigned)f[0] << 16 | (unsigned)f[1] << 8 | (k ? f[2] : 0);
-    return v >> (8 - k) & 0xFFFF;
-}
-
 static inline unsigned value_of(const uint8_t *m, const struct change *d, unsigned j) {
     switch (d->kind) {
     case 0: return d->v;
@@ -153,20 +205,11 @@ int NAME(power_up)(struct tag_session *s, uint8_t *m, size_t n, size_t power, st
     if (!left) goto lost;
     put(m, y.epc, crc_bits(m + 2 * (y.epc + 1), 16 * (1 + (word(m, y.epc + 1) >> 11))));
     out->stores = power - left + 1;
-    s->state = word(m, 17) ? TAG_KILLED : TAG_ARBITRATE;
+    s->state = word(m, 17) ? TAG_KILLED : TAG_READY;
     return 0;
 lost:
     out->stores = power;
     return 11;
-}
-
-int NAME(admit)(struct tag_session *s, unsigned number) {
-    if (s->state == TAG_OFF) return 5;
-    if (s->held) return 6;
-    if (s->state != TAG_ARBITRATE) return 9;
-    s->state = TAG_ACKNOWLEDGED;
-    s->number = (uint16_t)number;
-    return 0;
 }
 
 /* ---- replies ---- */
@@ -215,33 +258,169 @@ static void reply_error(uint8_t *o, unsigned code, unsigned handle) {
     reply_end(o + 1, code & 1, r, handle);
 }
 
+/* words as they are, with their CRC-16 */
+static void reply_bare(uint8_t *o, bytes p, size_t n) {
+    uint16_t r = 0xFFFF;
+#if WORDS_AT_ONCE == 4
+    for (; n >= 4; n -= 4, p += 8, o += 8) {
+        r = step64(r, eight(p));
+        memcpy(o, p, 8);
+    }
+    if (n == 3) { /* the last three words and the CRC-16 at once; more of the image stands behind them */
+        uint64_t v = eight(p) >> 16;
+        r = step64(0, (uint64_t)r << 32 ^ v);
+        v = __builtin_bswap64(v << 16 | (uint16_t)~r);
+        memcpy(o, &v, 8);
+        return;
+    }
+#endif
+    for (; n; n--, p += 2, o += 2) {
+        r = step16(r, word(p, 0));
+        memcpy(o, p, 2);
+    }
+    put(o, 0, (uint16_t)~r);
+}
+
+/* ---- inventory ---- */
+
+/* the inventoried flag of a session, 0 to 3, or SL, 4 */
+static inline uint8_t *flag(struct tag_session *s, unsigned i) { return (uint8_t *)s + offsetof(struct tag_session, s0) + i; }
+
+/* no number, cover or half */
+static inline void unlink_session(struct tag_session *s) {
+    s->covered = s->half = 0;
+    s->number = s->cover = s->upper = 0;
+}
+
+static inline void to_ready(struct tag_session *s) {
+    s->state = TAG_READY;
+    s->round = s->q = 0;
+    s->slot = 0;
+    unlink_session(s);
+}
+
+/* waits in the round for its slot */
+static inline void to_arbitrate(struct tag_session *s, unsigned slot) {
+    s->state = TAG_ARBITRATE;
+    s->slot = (uint16_t)slot;
+    unlink_session(s);
+}
+
+/* Reply with the fresh word, which is the reply too */
+static inline int to_reply(struct tag_session *s, unsigned fresh, uint8_t *room, struct rival_out *out) {
+    put(room, 0, fresh);
+    out->reply = 16;
+    s->state = TAG_REPLY;
+    s->slot = 0;
+    unlink_session(s);
+    s->number = (uint16_t)fresh;
+    return 0;
+}
+
+/* the tag is counted: the flag of the round's session turns */
+static inline int end_round(struct tag_session *s) {
+    *flag(s, s->round) ^= 1;
+    to_ready(s);
+    return 0;
+}
+
+static inline int in_round(const struct tag_session *s) { return s->state >= TAG_ARBITRATE && s->state <= TAG_SECURED; }
+
+INLINED int query_rep(struct tag_session *s, bytes f, unsigned fresh, uint8_t *room, size_t rn, struct rival_out *out) {
+    if (!in_round(s) || f[0] >> 4 != s->round) return 9;
+    if (s->state > TAG_REPLY) return end_round(s);
+    unsigned slot = (s->slot - 1u) & 0x7FFF; /* Reply has slot 0 */
+    if (!slot) return rn < 2 ? 4 : to_reply(s, fresh, room, out);
+    s->state = TAG_ARBITRATE;
+    s->number = 0;
+    s->slot = (uint16_t)slot;
+    return 0;
+}
+
+INLINED int query_adjust(struct tag_session *s, bytes f, unsigned fresh, uint8_t *room, size_t rn, struct rival_out *out) {
+    unsigned turn = (f[0] & 3u) << 1 | f[1] >> 7, q = s->q;
+    if (!in_round(s) || (f[0] >> 2 & 3) != s->round || !(0x49 >> turn & 1)) return 9; /* 000, 011, 110 */
+    if (s->state > TAG_REPLY) return end_round(s);
+    if (turn == 6) q += q < 15;
+    if (turn == 3) q -= q > 0;
+    unsigned slot = fresh & ((1u << q) - 1);
+    if (!slot && rn < 2) return 4;
+    s->q = (uint8_t)q;
+    if (!slot) return to_reply(s, fresh, room, out);
+    to_arbitrate(s, slot);
+    return 0;
+}
+
+INLINED int query(struct tag_session *s, bytes f, unsigned fresh, uint8_t *room, size_t rn, struct rival_out *out) {
+    if (crc5_wrong(f)) return 8;
+    if (s->state == TAG_KILLED) return 9;
+    unsigned session = f[1] >> 4 & 3, sel = f[1] >> 6, target = f[1] >> 3 & 1, q = (f[1] & 7u) << 1 | f[2] >> 7;
+    unsigned turned = s->state >= TAG_ACKNOWLEDGED && s->round == session, now = *flag(s, session) ^ turned;
+    if (now != target || (sel >= 2 && (sel & 1) != s->sl)) {
+        *flag(s, session) = (uint8_t)now;
+        to_ready(s);
+        return 0;
+    }
+    unsigned slot = fresh & ((1u << q) - 1);
+    if (!slot && rn < 2) return 4;
+    *flag(s, session) = (uint8_t)now;
+    s->round = (uint8_t)session;
+    s->q = (uint8_t)q;
+    if (!slot) return to_reply(s, fresh, room, out);
+    to_arbitrate(s, slot);
+    return 0;
+}
+
+static inline int nak(struct tag_session *s) {
+    if (!in_round(s)) return 9;
+    if (s->state != TAG_ARBITRATE) to_arbitrate(s, 0);
+    return 0;
+}
+
+INLINED int ack(struct tag_session *s, bytes m, const struct rival_layout *y, bytes f, uint8_t *room, size_t rn, struct rival_out *out) {
+    if (s->state < TAG_REPLY || s->state == TAG_KILLED) return 9;
+    if (field16(f, 2) != s->number || s->half) {
+        int halves = field16(f, 2) == s->number;
+        to_arbitrate(s, 0);
+        return halves ? 12 : 0;
+    }
+    unsigned words = 1 + (word(m, y->epc + 1) >> 11);
+    if (rn < 2 * (size_t)words + 2) return 4;
+    reply_bare(room, m + 2 * (y->epc + 1), words);
+    out->reply = 16 * (size_t)words + 16;
+    if (s->state == TAG_REPLY) s->state = TAG_ACKNOWLEDGED;
+    s->covered = 0;
+    s->cover = 0;
+    return 0;
+}
+
+/* what Select's action does to the flag: 0 assert SL or A, 1 deassert SL or B, 2 nothing, 3 negate; from the right, actions 000 to 111 without
+   a match, then with one */
+#define EFFECTS 0xA5E0C899u
+
+static inline int selection(struct tag_session *s, bytes m, bytes f, size_t n) {
+    unsigned from, e;
+    if (n < 45 || !(e = pointer(f, 12, &from))) return 7;
+    size_t length = field(f, 12 + 8 * e, 8), mask = 20 + 8 * e;
+    if (n != 37 + 8 * e + length) return 7;
+    if (field16(f, n - 16) != crc_bits(f, n - 16)) return 8;
+    unsigned target = f[0] >> 1 & 7, action = (f[0] & 1u) << 2 | f[1] >> 6, bank = f[1] >> 4 & 3;
+    if (s->state == TAG_KILLED || target > 4 || !bank || field(f, n - 17, 1)) return 9;
+    unsigned at = word(m, 4 + 2 * bank), words = word(m, 5 + 2 * bank);
+    int match = from + length + !length <= 16 * (size_t)words && same_bits(f, mask, m + 2 * at, from, length);
+    unsigned effect = EFFECTS >> (16 * match + 2 * action) & 3;
+    uint8_t *it = flag(s, target);
+    *it = (uint8_t)((effect & 2 ? *it : target == 4) ^ (effect & 1));
+    to_ready(s);
+    return 0;
+}
+
 /* ---- frames ---- */
 
 struct command {
     unsigned number, bank, pointer, count, value, mask, action, rfu, locks;
     size_t data;
 };
-
-static inline unsigned field(bytes f, size_t at, unsigned n) {
-    unsigned k = at % 8;
-    f += at / 8;
-    unsigned v = (unsigned)f[0] << 16 | (k + n > 8 ? (unsigned)f[1] << 8 : 0) | (k + n > 16 ? f[2] : 0);
-    return v >> (24 - k - n) & ((1u << n) - 1);
-}
-
-/* an EBV-8 pointer at bit `at`; its bytes, or 0 */
-static inline unsigned pointer(bytes f, size_t at, unsigned *value) {
-    unsigned v = 0;
-    for (unsigned e = 1; e <= 3; e++, at += 8) {
-        unsigned b = field(f, at, 8);
-        v = v << 7 | (b & 127);
-        if (b < 128) {
-            *value = v;
-            return e;
-        }
-    }
-    return 0;
-}
 
 /* 0, or malformed */
 static int parse(bytes f, size_t n, struct command *c) {
@@ -377,25 +556,25 @@ static int perma_error(bytes m, const struct rival_layout *y, const struct comma
     return (word(m, 16) & 3) == 1 ? 4 : NO_ERROR;
 }
 
-int NAME(frame)(struct tag_session *s, uint8_t *m, size_t mn, bytes f, size_t fn, size_t n, unsigned fresh, uint8_t *room, size_t rn,
-                size_t power, struct rival_out *out) {
+/* the answers of every call with an image: 1, 2, 3, 5 */
+INLINED int front(const struct tag_session *s, bytes m, size_t mn, struct rival_layout *y, struct rival_out *out) {
+    out->reply = out->stores = out->value = 0;
+    int a = NAME(check)(m, mn, y);
+    if (a) return a;
+    return s->state == TAG_OFF || word(m, y->work) ? 5 : 0;
+}
+
+/* frames of 40 bits or more: Select, and the codes of a byte but NAK */
+static __attribute__((noinline)) int long_frame(struct tag_session *s, uint8_t *m, size_t mn, bytes f, size_t fn, size_t n, unsigned fresh,
+                                                uint8_t *room, size_t rn, size_t power, struct rival_out *out) {
     struct rival_layout y;
     struct command c;
     struct change d = {0};
-    out->reply = out->stores = out->value = 0;
-    int a = NAME(check)(m, mn, &y);
+    int a = front(s, m, mn, &y, out);
     if (a) return a;
-    if (s->state == TAG_OFF || word(m, y.work)) return 5;
     if (s->held) return 6;
-    if (n < 8 || n / 8 + (n % 8 != 0) > fn) return 7;
-    if (f[0] == 0xC0) {
-        if (n != 8) return 7;
-        if (s->state == TAG_KILLED) return 9;
-        s->state = TAG_ARBITRATE;
-        s->covered = s->half = 0;
-        s->number = s->cover = s->upper = 0;
-        return 0;
-    }
+    if ((n - 1) / 8 >= fn) return 7;
+    if (f[0] >> 4 == 10) return selection(s, m, f, n);
     if (parse(f, n, &c)) return 7;
     if (field16(f, n - 16) != crc_bits(f, n - 16)) return 8;
     unsigned code = f[0];
@@ -422,9 +601,7 @@ int NAME(frame)(struct tag_session *s, uint8_t *m, size_t mn, bytes f, size_t fn
     if (halves) {
         unsigned at = y.reserved + (halves == TAG_ACCESS_HALF ? 2 : 0);
         if (code != (halves == TAG_ACCESS_HALF ? 0xC6u : 0xC4u) || s->upper != word(m, at) || v != word(m, at + 1)) {
-            s->state = TAG_ARBITRATE;
-            s->covered = s->half = 0;
-            s->number = s->cover = s->upper = 0;
+            to_arbitrate(s, 0);
             return 12;
         }
     }
@@ -516,11 +693,26 @@ int NAME(frame)(struct tag_session *s, uint8_t *m, size_t mn, bytes f, size_t fn
             s->half = TAG_ACCESS_HALF, s->upper = (uint16_t)v;
     } else if (code == 0xC4) {
         if (halves)
-            s->state = TAG_KILLED, s->number = 0;
+            s->state = TAG_KILLED, s->round = s->q = 0, s->number = 0;
         else
             s->half = TAG_KILL_HALF, s->upper = (uint16_t)v;
     }
     return 0;
+}
+
+int NAME(frame)(struct tag_session *s, uint8_t *m, size_t mn, bytes f, size_t fn, size_t n, unsigned fresh, uint8_t *room, size_t rn,
+                size_t power, struct rival_out *out) {
+    if (n >= 40) return long_frame(s, m, mn, f, fn, n, fresh, room, rn, power, out); /* it is told the same: a jump */
+    struct rival_layout y;
+    int a = front(s, m, mn, &y, out);
+    if (a) return a;
+    if (s->held) return 6;
+    if (n == 4) return fn && f[0] < 0x40 ? query_rep(s, f, fresh, room, rn, out) : 7;
+    if (!n || (n - 1) / 8 >= fn) return 7;
+    if (n == 18) return f[0] >> 6 == 1 ? ack(s, m, &y, f, room, rn, out) : 7;
+    if (n == 22) return f[0] >> 4 == 8 ? query(s, f, fresh, room, rn, out) : 7;
+    if (n == 9) return f[0] >> 4 == 9 ? query_adjust(s, f, fresh, room, rn, out) : 7;
+    return n == 8 && f[0] == 0xC0 ? nak(s) : 7;
 }
 
 /* ---- port ---- */
@@ -550,10 +742,8 @@ int NAME(register)(struct tag_session *s, struct rival_out *out) {
 
 int NAME(read)(struct tag_session *s, bytes m, size_t mn, size_t at, size_t count, uint8_t *room, size_t rn, struct rival_out *out) {
     struct rival_layout y;
-    out->reply = out->stores = out->value = 0;
-    int a = NAME(check)(m, mn, &y);
+    int a = front(s, m, mn, &y, out);
     if (a) return a;
-    if (s->state == TAG_OFF || word(m, y.work)) return 5;
     if (!s->held) return 6;
     if (count - 1 > 254 || at > y.user_words || at + count > y.user_words) return 13;
     if (rn < 2 * count) return 4;
@@ -569,10 +759,8 @@ int NAME(read)(struct tag_session *s, bytes m, size_t mn, size_t at, size_t coun
 
 int NAME(write)(struct tag_session *s, uint8_t *m, size_t mn, size_t at, bytes words, size_t wn, size_t power, struct rival_out *out) {
     struct rival_layout y;
-    out->reply = out->stores = out->value = 0;
-    int a = NAME(check)(m, mn, &y);
+    int a = front(s, m, mn, &y, out);
     if (a) return a;
-    if (s->state == TAG_OFF || word(m, y.work)) return 5;
     if (!s->held) return 6;
     size_t count = wn / 2;
     if (wn % 2 || count - 1 > 254 || at > y.user_words || at + count > y.user_words || count > y.pairs) return 13;

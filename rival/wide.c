@@ -1,4 +1,4 @@
-/* The rival with its CRC-16 by steps of 64 bits, without a table. */
+/* The rival with its CRC-16 by steps of 64 bits, and its CRC-5, without a table. */
 #define NAME(f) wide_##f
 #include "rival.h"
 
@@ -23,6 +23,16 @@ static inline uint16_t step64(uint16_t r, uint64_t w) {
     x ^= x >> 8 ^ x >> 22 ^ x >> 32;
     x ^= x >> 4 ^ x >> 11 ^ x >> 16;
     return (uint16_t)(x << 12 ^ x << 5 ^ x);
+}
+
+/* a Query's last 18 bits modulo the CRC-5's generator, by its square; its code and the preset come to 10h */
+static inline int crc5_wrong(const uint8_t *f) {
+    unsigned v = (f[0] & 15u) << 14 | (unsigned)f[1] << 6 | f[2] >> 2, t = v >> 10;
+    t ^= t >> 4;
+    v ^= t << 6 ^ t;
+    t = v >> 5 & 31;
+    t ^= t >> 2 ^ t >> 4;
+    return ((v ^ t << 3 ^ t) & 31) != 0x10;
 }
 
 #define WORDS_AT_ONCE 4

@@ -50,7 +50,7 @@ def count(call, image, way):
 print("| Call | Image | Library | to table | to 64-bit | to small |\n|---|---|---|---|---|---|")
 small = {}
 for image in range(2):
-    for call in range(9):
+    for call in range(13):
         if call == 6 and image == 0:
             continue
         name, library = count(call, image, 0)

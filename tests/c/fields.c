@@ -66,15 +66,24 @@ static void same(const char *what, struct tag_session a, struct tag_session b) {
     is(what, a.killed, b.killed);
     is(what, a.covered, b.covered);
     is(what, a.half, b.half);
+    is(what, a.round, b.round);
+    is(what, a.q, b.q);
+    is(what, a.s0, b.s0);
+    is(what, a.s1, b.s1);
+    is(what, a.s2, b.s2);
+    is(what, a.s3, b.s3);
+    is(what, a.sl, b.sl);
     is(what, a.number, b.number);
     is(what, a.cover, b.cover);
     is(what, a.upper, b.upper);
+    is(what, a.slot, b.slot);
 }
 
 /* a release that is refused hands the record back: each truth value alone, then all numbers at once */
 static void session(void) {
     static const struct tag_session off;
-    struct tag_session full = {TAG_SECURED, 0, 1, 0, 1, TAG_KILL_HALF, 0x1234, 0x5678, 0x9ABC};
+    struct tag_session full = {.state = TAG_SECURED, .unwritten = 1, .covered = 1, .half = TAG_KILL_HALF, .round = 2, .q = 13,
+                               .number = 0x1234, .cover = 0x5678, .upper = 0x9ABC};
     struct tag_outcome o = tag_release(full);
     is("release.answer", o.answer, 6);
     same("session back", o.session, full);
@@ -85,11 +94,14 @@ static void session(void) {
     same("session back, access", tag_release(full).session, full);
     full.number = 0;
     same("session back, handle 0", tag_release(full).session, full);
-    full.covered = 0;
-    o = tag_release(full);
-    is("stray cover, answer", o.answer, 5);
-    same("stray cover", o.session, off);
-    struct tag_session held = {TAG_KILLED, 1, 1, 0, 0, 0, 0, 0, 0};
+    for (int i = 0; i < 5; i++) {
+        static const char *const names[] = {"session back, S0", "session back, S1", "session back, S2", "session back, S3", "session back, SL"};
+        struct tag_session one = {.state = TAG_READY, .s0 = i == 0, .s1 = i == 1, .s2 = i == 2, .s3 = i == 3, .sl = i == 4};
+        same(names[i], tag_release(one).session, one);
+    }
+    struct tag_session waiting = {.state = TAG_ARBITRATE, .round = 3, .q = 11, .slot = 0x6789};
+    same("session back, slot", tag_release(waiting).session, waiting);
+    struct tag_session held = {.state = TAG_KILLED, .held = 1, .unwritten = 1};
     o = tag_register(held);
     is("register.value, unwritten", o.value, 2);
     held.unwritten = 0;
@@ -98,15 +110,75 @@ static void session(void) {
     is("ask while held", tag_ask(held).answer, 6);
     held.held = 0;
     is("ask while free", tag_ask(held).session.held, 1);
-    struct tag_session first = {TAG_ARBITRATE, 0, 0, 0, 0, 0, 0, 0, 0};
-    o = tag_admit(first, 0xBEEF);
-    is("admit.number", o.session.number, 0xBEEF);
-    is("admit.state", o.session.state, TAG_ACKNOWLEDGED);
-    first.number = 1;
-    is("stray number, answer", tag_admit(first, 0xBEEF).answer, 5);
-    first.state = 6;
-    first.number = 0;
-    is("unknown state, answer", tag_admit(first, 0xBEEF).answer, 5);
+    full.covered = 0;
+    o = tag_release(full);
+    is("stray cover, answer", o.answer, 5);
+    same("stray cover", o.session, off);
+}
+
+/* a record that is no session's is answered as Off */
+static void stray(const char *what, struct tag_session s) {
+    static const struct tag_session off;
+    struct tag_outcome o = tag_release(s);
+    is(what, o.answer, 5);
+    same(what, o.session, off);
+}
+
+static void strays(void) {
+    stray("unknown state", (struct tag_session){.state = 8});
+    stray("stray held", (struct tag_session){.held = 1});
+    stray("stray SL", (struct tag_session){.sl = 1});
+    stray("stray round", (struct tag_session){.state = TAG_READY, .round = 1});
+    stray("stray Q", (struct tag_session){.state = TAG_READY, .q = 1});
+    stray("stray slot", (struct tag_session){.state = TAG_REPLY, .slot = 1});
+    stray("stray number", (struct tag_session){.state = TAG_ARBITRATE, .number = 1});
+    stray("S0 of 2", (struct tag_session){.state = TAG_READY, .s0 = 2});
+    stray("S1 of 2", (struct tag_session){.state = TAG_READY, .s1 = 2});
+    stray("S2 of 2", (struct tag_session){.state = TAG_READY, .s2 = 2});
+    stray("S3 of 2", (struct tag_session){.state = TAG_READY, .s3 = 2});
+    stray("SL of 2", (struct tag_session){.state = TAG_READY, .sl = 2});
+}
+
+/* the inventory's fields: Select turns SL, Query draws round and slot, QueryAdjust and QueryRep move Q and slot, ACK tells the EPC */
+static void inventory(void) {
+    static const uint8_t select[] = {0xA8, 0x11, 0x01, 0x01, 0x00, 0x02, 0xA2, 0xA8}; /* SL, action 000, EPC from bit 16 on: 1000h */
+    static const uint8_t query[] = {0x80, 0xE6, 0x0C};                                /* SL asserted, S2, target A, Q = 12 */
+    static const uint8_t adjust[] = {0x9B, 0x00};                                     /* S2, Q one more */
+    static const uint8_t rep[] = {0x20};                                              /* S2 */
+    static const uint8_t ack[] = {0x70, 0x00, 0x00};                                  /* C000h */
+    struct tag_session ready = {.state = TAG_READY, .s1 = 1};
+    uint8_t room[12];
+    memset(room, 0xEE, sizeof room);
+    struct tag_outcome o = tag_frame(ready, image, sizeof image, 61, select, 8, 0, room, 0, 0);
+    is("select.answer", o.answer, 0);
+    is("select.sl", o.session.sl, 1);
+    is("select.s1", o.session.s1, 1);
+    o = tag_frame(o.session, image, sizeof image, 22, query, 3, 0x5ABC, room, 0, 0);
+    is("query.answer", o.answer, 0);
+    is("query.state", o.session.state, TAG_ARBITRATE);
+    is("query.round", o.session.round, 2);
+    is("query.q", o.session.q, 12);
+    is("query.slot", o.session.slot, 0xABC);
+    o = tag_frame(o.session, image, sizeof image, 9, adjust, 2, 0x7777, room, 0, 0);
+    is("adjust.q", o.session.q, 13);
+    is("adjust.slot", o.session.slot, 0x1777);
+    o = tag_frame(o.session, image, sizeof image, 4, rep, 1, 0, room, 0, 0);
+    is("rep.slot", o.session.slot, 0x1776);
+    is("adjust with a small room", tag_frame(o.session, image, sizeof image, 9, adjust, 2, 0xC000, room, 1, 0).answer, 4);
+    o = tag_frame(o.session, image, sizeof image, 9, adjust, 2, 0xC000, room, 2, 0);
+    is("reply.state", o.session.state, TAG_REPLY);
+    is("reply.reply", o.reply, 16);
+    is("reply.number", o.session.number, 0xC000);
+    is("reply: the room", get(room, 0), 0xC000);
+    is("reply: past the reply", room[2], 0xEE);
+    o = tag_frame(o.session, image, sizeof image, 18, ack, 3, 0, room, sizeof room, 0);
+    is("ack.state", o.session.state, TAG_ACKNOWLEDGED);
+    is("ack.reply", o.reply, 64);
+    is("ack.q", o.session.q, 14);
+    is("ack: the room", get(room, 0) * 65536 + get(room, 3), 0x1000EB6B);
+    o = tag_frame(o.session, image, sizeof image, 4, rep, 1, 0, room, 0, 0);
+    ready.s2 = ready.sl = 1;
+    same("rep ends the round", o.session, ready);
 }
 
 /* arguments and the outcome's other fields: a covered Write, a Read, the second half of a Kill, a cut power-up, the port */
@@ -115,7 +187,7 @@ static void calls(void) {
     static const uint8_t read[] = {0xC2, 0xC0, 0xC0, 0x84, 0x8D, 0x1F, 0xEA, 0x80};
     static const uint8_t kill[] = {0xC4, 0x11, 0x13, 0x02, 0x46, 0x8D, 0x0D, 0xE0};
     static const uint8_t rn[] = {0xC1, 0x12, 0x34, 0x31, 0x62};
-    struct tag_session secured = {TAG_SECURED, 0, 0, 0, 1, 0, 0x1234, 0x5A5A, 0};
+    struct tag_session secured = {.state = TAG_SECURED, .covered = 1, .number = 0x1234, .cover = 0x5A5A};
     uint8_t room[12], words[4] = {0xA1, 0xA2, 0xA3, 0xA4};
     memset(room, 0xEE, sizeof room);
     struct tag_outcome o = tag_frame(secured, image, sizeof image, 66, write, 9, 0x7777, room, sizeof room, 5);
@@ -141,7 +213,7 @@ static void calls(void) {
     o = tag_frame(secured, image, sizeof image, 59, kill, 8, 0x7777, room, sizeof room, 0);
     is("kill.upper", o.session.upper, 0x4B49);
     is("kill.half", o.session.half, TAG_KILL_HALF);
-    struct tag_session held = {TAG_ARBITRATE, 1, 0, 0, 0, 0, 0, 0, 0};
+    struct tag_session held = {.state = TAG_READY, .held = 1};
     o = tag_write(held, image, sizeof image, 46, words, 4, 8);
     is("write.answer", o.answer, 0);
     is("write.stores", o.stores, 8);
@@ -152,7 +224,7 @@ static void calls(void) {
     o = tag_power_up(image, sizeof image, 9);
     is("power-up.answer", o.answer, 0);
     is("power-up.stores", o.stores, 4);
-    is("power-up.state", o.session.state, TAG_ARBITRATE);
+    is("power-up.state", o.session.state, TAG_READY);
     o = tag_read(held, image, sizeof image, 45, 3, room, 6);
     is("port read.reply", o.reply, 48);
     is("port read: the room", get(room, 0) * 65536 + get(room, 2), 0x402DA3A4);
@@ -164,6 +236,8 @@ int main(void) {
     fill();
     sheet();
     session();
+    strays();
+    inventory();
     calls();
     printf("fields: %d seen, %d bad\n", seen, bad);
     return bad != 0;
