@@ -92,7 +92,10 @@ fn matches(f: Flags, sel: u8, target: u8, session: u8) -> bool
     ensures { λ r. ⌜ r ≡ matchesOf f sel target session ⌝ }
 {
     let selected = either(either(sel < 2, both(sel == 2, !f.sl)), both(sel == 3, f.sl));
-    both(selected, pick(flag_at(f, session), target == 1, target == 0))
+    both(
+        selected,
+        pick(flag_at(f, session), target == 1, target == 0),
+    )
 }
 
 // The state after a Query, with the flags as its first step leaves them.

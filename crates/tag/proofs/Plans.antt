@@ -17,6 +17,7 @@ use Rattle.frames.specs.declared.Order.{Order}
 use Rattle.frames.specs.declared.Order.the-variants as order
 use Rattle.replies.specs.declared.Reply.{Reply}
 use Rattle.replies.specs.declared.Reply.the-variants as reply
+use Rattle.replies.proofs.Laws.{packed-none}
 use Rattle.stores.specs.Stores.{changeStores}
 use Rattle.stores.specs.Steps.{Made}
 use Rattle.bits.specs.Words.{Store}
@@ -48,7 +49,7 @@ use Rattle.states.specs.Commands.{asksOf, linkOf, isSecured, uncovered, wrongBy
 use Rattle.states.specs.Inventory.{queriedFlags, queried, leftFlags, adjusted, repeated, acknowledged, selects, selectedFlags}
 use Rattle.states.specs.Steps.{killCode, accessed, wrongCommand}
 use Rattle.states.proofs.Gates.{Named, passes-handle}
-use Rattle.tag.specs.Steps.{kept, tellEnd, storeEnd, doneEnd, endBy, sceneOf, droppedWith, orderOf, commandOf, Sound, performOf}
+use Rattle.tag.specs.Steps.{gives, kept, tellEnd, storeEnd, doneEnd, endBy, sceneOf, droppedWith, orderOf, commandOf, Sound, performOf}
 
 -- a row that does not hold, and those after it
 none-row : (b : Bool) (e : Fault) (rest : Code) → cond b (code.Error e) rest ≡ code.Nothing → (b ≡ false) × (rest ≡ code.Nothing)
@@ -174,6 +175,11 @@ good-long y m g = let h = g .header in omega arith
 pub tell-any : (l : Live) (w : ℕ) (m room : List ℕ) (s : ℕ) (r : Reply) (v : Session) → tellEnd l m room r v ≡ doneEnd l w m room s r v []
 unfolding doneEnd
 tell-any l w m room s r v = let e : ltb s 0 ≡ false = le-ltb s 0 (omega arith) in rw e
+
+-- silence always has room
+pub silent-end : (l : Live) (m room : List ℕ) (v : Session) → gives 0 v 0 0 m room ≡ tellEnd l m room reply.Silence v
+unfolding doneEnd
+silent-end l m room v = let a : ltb (length room) 0 ≡ false = le-ltb (length room) 0 (omega arith) in rw (a, packed-none)
 
 -- a change's stores, and what they leave to say
 module _ (l : Live) (h w : ℕ) (m room : List ℕ) (s : ℕ) (st : State) (ss : List Store) where
@@ -317,7 +323,7 @@ module _ (l : Live) (y : Layout) (m f : List ℕ) (fresh : ℕ) (room : List ℕ
       ap (λ (k : ℕ). performOf l k y m f room s (planOf y m f fresh (l .flags) (l .state) o)) (passes-handle (l .state) (asksOf o) n w h) ∙ plan-performs o
 
   any-handle : (n : ℕ) (b : Bool) (st : State) (g : Flags) (a k : ℕ) → performOf l n y m f room s (cond b (plan.Epc st a k) (plan.Turn (fallen (l .state)) g))
-      ≡ performOf l handle y m f room s (cond b (plan.Epc st a k) (plan.Turn (fallen (l .state)) g))
+      ≡ performOf l (linkOf (l .state) .handle) y m f room s (cond b (plan.Epc st a k) (plan.Turn (fallen (l .state)) g))
   any-handle n true st g a k = refl
   any-handle n false st g a k = refl
 

@@ -9,9 +9,9 @@ mod port;
 mod radio;
 mod starting;
 
+pub use frames::Round;
 pub use port::read_words;
 pub use starting::power_up;
-pub use frames::Round;
 pub use states::Cover;
 pub use states::Flags;
 pub use states::Half;

@@ -5,11 +5,11 @@ use Rattle.plans.proofs.ack.Statement.{statement}
 use Rattle.plans.proofs.ack.Tie as tie
 
 returns : tie.Need-returns
-returns c = 
+returns c =
     rw (c .fallen .ensures) (simp (← c .before .before .before .link-of .ensures, ne-eqb _ _ (c .before .if1 .taken)))
 
 returns-2 : tie.Need-returns-2
-returns-2 c = 
+returns-2 c =
     rw (c .acknowledged .ensures, c .before .word .ensures, c .before .before .before .read-layout .ensures)
     (simp (← c .before .before .before .before .before .before .link-of .ensures, eq-eqb _ _ (c .before .before .before .before .if1 .left)))
 

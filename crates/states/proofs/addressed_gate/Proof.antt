@@ -7,12 +7,12 @@ returns : tie.Need-returns
 returns c = simp (← c .before .is-wrong .ensures, c .if1 .taken)
 
 returns-2 : tie.Need-returns-2
-returns-2 c = 
+returns-2 c =
     rw (← c .before .before .before .before .before .before .is-wrong .ensures, c .before .before .before .before .before .if1 .left)
     (simp (← c .before .before .before .before .link-of .ensures, ← c .before .before .before .waits .ensures, ← c .before .both .ensures, c .if2 .taken))
 
 returns-3 : tie.Need-returns-3
-returns-3 c = 
+returns-3 c =
     rw (← c .before .before .before .before .before .before .is-wrong .ensures, c .before .before .before .before .before .if1 .left)
     (simp (← c .before .before .before .before .link-of .ensures, ← c .before .before .before .waits .ensures, ← c .before .both .ensures, c .if2 .left))
 

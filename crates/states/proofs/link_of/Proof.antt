@@ -4,7 +4,7 @@ use Rattle.states.proofs.link_of.Statement.{statement}
 use Rattle.states.proofs.link_of.Tie as tie
 
 returns : tie.Need-returns
-returns c = 
+returns c =
     rw (c .plain-link .ensures, c .before .no-round .ensures, c .before .before .enum-told .given .1)
 
 returns-2 : tie.Need-returns-2
@@ -17,7 +17,7 @@ returns-4 : tie.Need-returns-4
 returns-4 c = rw (c .plain-link4 .ensures, c .before .before .state3 .given .1)
 
 returns-7 : tie.Need-returns-7
-returns-7 c = 
+returns-7 c =
     rw (c .plain-link5 .ensures, c .before .no-round2 .ensures, c .before .before .enum-told2 .given .1)
 
 pub link-of-spec : {M : Type 1} → statement M

@@ -7,7 +7,7 @@ returns : tie.Need-returns
 returns c = simp (← c .before .was-acknowledged .ensures, c .if1 .taken)
 
 returns-2 : tie.Need-returns-2
-returns-2 c = 
+returns-2 c =
     rw (c .drawn .ensures, c .before .slot-from .ensures, c .before .before .adjusted-q .ensures, c .before .before .before .before .link-of .ensures)
     (simp (← c .before .before .before .before .before .before .was-acknowledged .ensures, c .before .before .before .before .before .if1 .left))
 

@@ -17,7 +17,7 @@ returns-4 : tie.Need-returns-4
 returns-4 c = rw (c .if4 .taken) (simp (eq-eqb _ _ (c .before .if3 .left), ne-eqb _ _ (c .before .before .if1 .left)))
 
 returns-5 : tie.Need-returns-5
-returns-5 c = 
+returns-5 c =
     simp (ne-eqb _ _ (c .if4 .left), eq-eqb _ _ (c .before .if3 .left), ne-eqb _ _ (c .before .before .if1 .left))
 
 pub adjusted-q-spec : {M : Type 1} → statement M

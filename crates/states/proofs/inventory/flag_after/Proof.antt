@@ -33,7 +33,7 @@ returns-7 c = rw (c .pick7 .ensures)
     (simp (c .before .match .keys7))
 
 returns-8 : tie.Need-returns-8
-returns-8 c = 
+returns-8 c =
     rw (c .pick8 .ensures)
     (simp (ne-eqb _ _ (c .before .match .rest .0 .0 .0 .0 .0 .0 .1), ne-eqb _ _ (c .before .match .rest .0 .0 .0 .0 .0 .1), ne-eqb _ _ (c .before .match .rest .0 .0 .0 .0 .1), ne-eqb _ _ (c .before .match .rest .0 .0 .0 .1), ne-eqb _ _ (c .before .match .rest .0 .0 .1), ne-eqb _ _ (c .before .match .rest .0 .1), ne-eqb _ _ (c .before .match .rest .1)))
 

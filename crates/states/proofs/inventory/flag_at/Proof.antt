@@ -16,7 +16,7 @@ returns-4 : tie.Need-returns-4
 returns-4 c = simp (c .match .keys4)
 
 returns-5 : tie.Need-returns-5
-returns-5 c = 
+returns-5 c =
     simp (ne-eqb _ _ (c .match .rest .0 .0 .0 .1), ne-eqb _ _ (c .match .rest .0 .0 .1), ne-eqb _ _ (c .match .rest .0 .1), ne-eqb _ _ (c .match .rest .1))
 
 pub flag-at-spec : {M : Type 1} → statement M

@@ -4,7 +4,7 @@ use Rattle.states.proofs.inventory.left_flags.Statement.{statement}
 use Rattle.states.proofs.inventory.left_flags.Tie as tie
 
 returns : tie.Need-returns
-returns c = 
+returns c =
     rw (c .inverted .ensures, c .before .link-of .ensures)
     (simp (← c .before .before .before .was-acknowledged .ensures, c .before .before .if1 .taken))
 

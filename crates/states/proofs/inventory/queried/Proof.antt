@@ -4,7 +4,7 @@ use Rattle.states.proofs.inventory.queried.Statement.{statement}
 use Rattle.states.proofs.inventory.queried.Tie as tie
 
 returns : tie.Need-returns
-returns c = 
+returns c =
     rw (c .drawn .ensures, c .before .slot-from .ensures)
     (simp (← c .before .before .before .matches .ensures, c .before .before .if1 .taken))
 

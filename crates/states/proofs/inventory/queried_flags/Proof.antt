@@ -4,11 +4,11 @@ use Rattle.states.proofs.inventory.queried_flags.Statement.{statement}
 use Rattle.states.proofs.inventory.queried_flags.Tie as tie
 
 returns : tie.Need-returns
-returns c = 
+returns c =
     rw (c .inverted .ensures) (simp (← c .before .before .before .before .before .link-of .ensures, ← c .before .before .before .before .was-acknowledged .ensures, ← c .before .before .both .ensures, c .before .if1 .taken))
 
 returns-2 : tie.Need-returns-2
-returns-2 c = 
+returns-2 c =
     simp (← c .before .before .before .before .link-of .ensures, ← c .before .before .before .was-acknowledged .ensures, ← c .before .both .ensures, c .if1 .left)
 
 pub queried-flags-spec : {M : Type 1} → statement M

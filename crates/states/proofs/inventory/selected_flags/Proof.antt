@@ -4,7 +4,7 @@ use Rattle.states.proofs.inventory.selected_flags.Statement.{statement}
 use Rattle.states.proofs.inventory.selected_flags.Tie as tie
 
 returns : tie.Need-returns
-returns c = 
+returns c =
     rw (c .with-flag .ensures, c .before .flag-after .ensures, c .before .before .flag-at .ensures)
 
 pub selected-flags-spec : {M : Type 1} → statement M

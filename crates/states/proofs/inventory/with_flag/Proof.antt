@@ -4,7 +4,7 @@ use Rattle.states.proofs.inventory.with_flag.Statement.{statement}
 use Rattle.states.proofs.inventory.with_flag.Tie as tie
 
 returns : tie.Need-returns
-returns c = 
+returns c =
     rw (c .pick5 .ensures, c .before .pick4 .ensures, c .before .before .pick3 .ensures, c .before .before .before .pick2 .ensures, c .before .before .before .before .pick .ensures)
 
 pub with-flag-spec : {M : Type 1} → statement M

@@ -4,8 +4,8 @@ use Rattle.tag.proofs.answering.dropped.Statement.{statement}
 use Rattle.tag.proofs.answering.dropped.Tie as tie
 
 returns : tie.Need-returns
-returns c = rw (c .moved .ensures)
+returns c = rw (c .moved .ensures, c .before .fallen .ensures)
 
 pub dropped-spec : {M : Type 1} → statement M
 dropped-spec = tie.close
-    (tie.spec (λ c κs. search needs) returns)
+    (tie.spec (λ c κs. search needs) (λ c κs. search needs) returns)
