@@ -11,27 +11,38 @@ use Rattle.rights.specs.declared.Code.{Code}
 use Rattle.rights.specs.declared.Code.the-variants as code
 use Rattle.stores.specs.Stores.{changeStores, powerStores}
 use Rattle.stores.specs.Cuts.{withByte}
+use Rattle.states.specs.declared.Flags.{Flags}
+use Rattle.states.specs.declared.State.{State}
+use Rattle.tag.specs.declared.Register.{Register}
 use Rattle.tag.specs.declared.Session.{Session}
 use Rattle.tag.specs.declared.Outcome.{Outcome}
-use Rattle.tag.specs.Session.{offSession}
+use Rattle.tag.specs.Session.{offSession, on}
 use Rattle.tag.specs.Result.{Result, result, firstOf, Answers}
 use Rattle.states.specs.Commands.{isKilled}
 use Rattle.tag.specs.Power.{powerUpOf}
-use Rattle.tag.specs.Table.{liveOf, effect, frameOf, admitOf}
+use Rattle.tag.specs.Table.{liveOf, effect, frameOf}
 use Rattle.tag.specs.Port.{askOf, releaseOf, numberIn, registerOf, readOf, portWords, writeOf}
 use Rattle.tag.specs.Steps.{input}
 
--- what a caller hands over beside the session and the image: a power-up's s; an admission's number; a frame's bytes, bit count, fresh
--- word, room and s; a read's first word, count and room; a write's first word, data and s
+-- what a caller hands over beside the session and the image: a power-up's s; a frame's bytes, bit count, fresh word, room and s; a read's
+-- first word, count and room; a write's first word, data and s
 pub data Call : Type 0 where
   powerUp : ℕ → Call
-  admit : ℕ → Call
   frame : List ℕ → ℕ → ℕ → List ℕ → ℕ → Call
   ask : Call
   release : Call
   register : Call
   read : ℕ → ℕ → List ℕ → Call
   write : ℕ → List ℕ → ℕ → Call
+
+-- what a session under power holds beside its state and its port: flags and register
+pub record Aside : Type 0 where
+  pub flags : Flags
+  pub register : Register
+
+-- a session under power: its state, the port held or free, and the rest
+abbrev pub awake : State → Bool → Aside → Session
+awake st held r = on (r .flags) st held (r .register)
 
 -- any session and any image, whether they belong together or not
 pub record Tag : Type 0 where
@@ -52,7 +63,6 @@ asked A s m c = A (tagOf s m) c
 -- the table of each operation: its rows, each what it leaves and when, and what is left where none holds
 abbrev pub answersIn : Tag → Call → Answers
 answersIn t (powerUp s) = powerUpOf (t .image) s
-answersIn t (admit n) = admitOf (t .session) n
 answersIn t (frame f bits fresh room s) = frameOf changeStores (input (t .session) (t .image) f bits fresh room s)
 answersIn t ask = askOf (t .session)
 answersIn t release = releaseOf (t .session)
@@ -72,7 +82,6 @@ Meets A t c o image room = result o image room ≡ A t c
 -- nothing)
 abbrev pub sessionIn : Tag → Call → Session
 sessionIn t (powerUp s) = offSession
-sessionIn t (admit n) = t .session
 sessionIn t (frame f bits fresh room s) = t .session
 sessionIn t ask = t .session
 sessionIn t release = t .session
@@ -82,7 +91,6 @@ sessionIn t (write at d s) = t .session
 
 abbrev pub imageIn : Tag → Call → List ℕ
 imageIn t (powerUp s) = t .image
-imageIn t (admit n) = []
 imageIn t (frame f bits fresh room s) = t .image
 imageIn t ask = []
 imageIn t release = []
@@ -92,7 +100,6 @@ imageIn t (write at d s) = t .image
 
 abbrev pub roomIn : Call → List ℕ
 roomIn (powerUp s) = []
-roomIn (admit n) = []
 roomIn (frame f bits fresh room s) = room
 roomIn ask = []
 roomIn release = []
@@ -102,7 +109,6 @@ roomIn (write at d s) = []
 
 abbrev pub powerIn : Call → ℕ
 powerIn (powerUp s) = s
-powerIn (admit n) = 0
 powerIn (frame f bits fresh room s) = s
 powerIn ask = 0
 powerIn release = 0
@@ -113,7 +119,6 @@ powerIn (write at d s) = s
 -- the words that a frame or an SPI write changes where nothing refuses it; and the stores that a call makes where the power lasts
 abbrev pub wordsIn : Tag → Call → List Store
 wordsIn t (powerUp s) = []
-wordsIn t (admit n) = []
 wordsIn t (frame f bits fresh room s) = effect (input (t .session) (t .image) f bits fresh room s) .words
 wordsIn t ask = []
 wordsIn t release = []
@@ -123,7 +128,6 @@ wordsIn t (write at d s) = portWords (layoutOf (t .image)) (t .image) (isKilled 
 
 abbrev pub storesIn : Tag → Call → List Store
 storesIn t (powerUp s) = powerStores (layoutOf (t .image)) (t .image)
-storesIn t (admit n) = []
 storesIn t (frame f bits fresh room s) = changeStores (layoutOf (t .image) .work .at) (wordsIn t (frame f bits fresh room s))
 storesIn t ask = []
 storesIn t release = []
@@ -134,7 +138,6 @@ storesIn t (write at d s) = changeStores (layoutOf (t .image) .work .at) (wordsI
 -- the error code of a frame's command
 abbrev pub codeIn : Tag → Call → Code
 codeIn t (powerUp s) = code.Nothing
-codeIn t (admit n) = code.Nothing
 codeIn t (frame f bits fresh room s) = effect (input (t .session) (t .image) f bits fresh room s) .code
 codeIn t ask = code.Nothing
 codeIn t release = code.Nothing
@@ -145,7 +148,6 @@ codeIn t (write at d s) = code.Nothing
 -- what it hands back as a value where it is done: the register, 0 where it reads none
 abbrev pub valueIn : Tag → Call → ℕ
 valueIn t (powerUp s) = 0
-valueIn t (admit n) = 0
 valueIn t (frame f bits fresh room s) = 0
 valueIn t ask = 0
 valueIn t release = 0
@@ -156,7 +158,6 @@ valueIn t (write at d s) = 0
 -- the image after a call: it stays where the call has none
 abbrev pub imageAfter : Program → Tag → Call → List ℕ
 imageAfter A t (powerUp s) = A t (powerUp s) .image
-imageAfter A t (admit n) = t .image
 imageAfter A t (frame f bits fresh room s) = A t (frame f bits fresh room s) .image
 imageAfter A t ask = t .image
 imageAfter A t release = t .image
@@ -167,7 +168,6 @@ imageAfter A t (write at d s) = A t (write at d s) .image
 -- a call with power for one store more
 abbrev pub more : Call → Call
 more (powerUp s) = powerUp (suc s)
-more (admit n) = admit n
 more (frame f bits fresh room s) = frame f bits fresh room (suc s)
 more ask = ask
 more release = release

@@ -21,14 +21,13 @@ use Rattle.rights.specs.declared.Code.{Code}
 use Rattle.rights.specs.declared.Code.the-variants as code
 use Rattle.rights.specs.Rights.{pwdBit, permaBit, faultNumber}
 use Rattle.stores.specs.Cuts.{Cut, reaches}
-use Rattle.states.specs.declared.State.the-variants as state
 use Rattle.tag.specs.declared.Session.{Session}
 use Rattle.tag.specs.declared.Outcome.{Outcome}
 use Rattle.tag.specs.Session.{offSession}
 use Rattle.tag.specs.Result.{Result, leaves, lost}
-use Rattle.states.specs.Commands.{linkOf, used}
+use Rattle.states.specs.Commands.{linkOf, used, fallen}
 use Rattle.tag.specs.Table.{liveOf, replyOr, movedTo}
-use Rattle.demands.specs.Calls.{Call, powerUp, admit, frame, ask, release, register, read, write, Tag, Program, asked, Meets, sessionIn, imageIn, roomIn, powerIn, wordsIn, storesIn, codeIn, valueIn, imageAfter, torn, Turn, runImage, Idle, answersIn}
+use Rattle.demands.specs.Calls.{Call, powerUp, frame, ask, release, register, read, write, Tag, Program, asked, Meets, sessionIn, imageIn, roomIn, powerIn, wordsIn, storesIn, codeIn, valueIn, imageAfter, torn, Turn, runImage, Idle, answersIn}
 
 -- DEMAND 1. Every image, frame and SPI transaction that can be handed over gets one answer of the table; a refusal leaves what the table
 -- says.
@@ -69,7 +68,7 @@ pub record Tabled (t : Tag) (c : Call) (r : Result) : Type 0 where
         image = after (imageIn t c) (take (powerIn c) (storesIn t c));
         room = roomIn c;
       })
-  pub dropped : r .number ≡ 12 → r ≡ leaves 12 (movedTo (liveOf (t .session .power)) state.Arbitrate) (imageIn t c) (roomIn c)
+  pub dropped : r .number ≡ 12 → r ≡ leaves 12 (let l = liveOf (t .session .power) in movedTo l (fallen (l .state))) (imageIn t c) (roomIn c)
   pub silent : r .reply ≡ 0 → r .room ≡ roomIn c
   pub made : r .number ≡ 0 → (r .stores ≡ length (storesIn t c)) × (r .image ≡ after (imageIn t c) (storesIn t c))
   pub value : r .value ≡ cond (eqb (r .number) 0) (valueIn t c) 0
@@ -85,7 +84,6 @@ pub record Checks (m : List ℕ) : Type 0 where
 -- the order in which each call's answers are asked for
 abbrev pub orderIn : Call → List ℕ
 orderIn (powerUp s) = 1 ∷ 2 ∷ 3 ∷ 11 ∷ []
-orderIn (admit n) = 5 ∷ 6 ∷ 9 ∷ []
 orderIn (frame f bits fresh room s) = 1 ∷ 2 ∷ 3 ∷ 5 ∷ 6 ∷ 7 ∷ 8 ∷ 9 ∷ 12 ∷ 10 ∷ 4 ∷ 11 ∷ []
 orderIn ask = 5 ∷ 6 ∷ []
 orderIn release = 5 ∷ 6 ∷ []
@@ -180,7 +178,7 @@ pub record Survives (A : Program) (y : Layout) (t : Tag) (c : Storing) (n enough
 abbrev pub Demand3 : Program → Type 0
 Demand3 A = (y : Layout) (t : Tag) (c : Storing) (n enough : ℕ) → Completes A y t c n enough → Survives A y t c n enough
 
--- And through any run of commands, SPI transfers, admissions, cuts and power-ups from such an image, with any inputs and any sessions:
+-- And through any run of commands, SPI transfers, cuts and power-ups from such an image, with any inputs and any sessions:
 -- from any point of the run to any later one the image stays good, header and TID stay, no permalock is taken off, the pwd bit of a
 -- permalocked pair stays, a killed tag stays killed, and no USER word of a permalocked block changes.
 pub record Kept (y : Layout) (m n : List ℕ) : Type 0 where

@@ -1,17 +1,24 @@
--- The rights and codes of the rules as facts (RULES 3.18 to 3.22, and 4.4 of the port): what must hold so that no error code applies.
--- Assumes nothing.
+-- The rights and codes of the rules as facts (RULES 3.18 to 3.22, and 4.4 of the port): what must hold so that no error code applies; and
+-- what the commands of inventory ask (RULES 11). Assumes nothing.
 use Prim.Native.Nat.{ℕ, zero, suc, _+_, _*_, _/_, _%_, _^_, _≤_, _<_}
 use mathlib.Core.Path.{_≡_}
 use mathlib.Core.Logic.{_≢_, _⊎_}
-use mathlib.Core.Bool.{Bool, true, false, cond}
+use mathlib.Core.Bool.{Bool, true, false, cond, not}
 use mathlib.Core.List.{List, [], _∷_, _++_}
 use Rattle.bits.specs.Words.{Store}
 use Rattle.bits.specs.Bits.{bitAt}
 use Rattle.image.specs.declared.Layout.{Layout}
 use Rattle.image.specs.Layout.{blocksIn, pairsIn}
 use Rattle.image.specs.Content.{lockWord, lengthOf, permalock}
+use Rattle.frames.specs.declared.Round.{Round}
+use Rattle.frames.specs.declared.Choice.{Choice}
 use Rattle.rights.specs.Rights.{bankOf, pwdBit, permaBit, lockedTo}
+use Rattle.states.specs.declared.Flags.{Flags}
+use Rattle.states.specs.declared.Link.{Link}
+use Rattle.states.specs.declared.State.{State}
+use Rattle.states.specs.declared.State.the-variants as state
 use Rattle.states.specs.Commands.{accessWord}
+use Rattle.states.specs.Inventory.{flagAt, withFlag}
 
 -- 3.18: pair k of the lock word, pwd and permalock: 00 and 01 are open in Open and Secured, 10 in Secured, 11 never
 abbrev pub Opens : Bool → ℕ → ℕ → Type 0
@@ -92,3 +99,56 @@ Tells false P = P → ⊥
 abbrev pub marked : (ℕ → Bool) → (ℕ → Store) → ℕ → List Store
 marked marks word zero = []
 marked marks word (suc n) = marked marks word n ++ cond (marks n) (word n ∷ []) []
+
+-- 11.2: states by what they hold: Arbitrate with its slot, or Reply, whose slot is 0
+pub data Slotted : State → Round → ℕ → Type 0 where
+  arbitrate : (q : Round) (slot : ℕ) → Slotted (state.Arbitrate q slot) q slot
+  reply : (q : Round) (n : ℕ) → Slotted (state.Reply q n) q 0
+
+-- Acknowledged, Open and Secured, by their round
+pub data Singled : State → Round → Type 0 where
+  acknowledged : (q : Round) (n : ℕ) → Singled (state.Acknowledged q n) q
+  open : (k : Link) → Singled (state.Open k) (k .round)
+  secured : (k : Link) → Singled (state.Secured k) (k .round)
+
+-- Reply, Acknowledged, Open and Secured, by their round and their number or handle
+pub data Numbered : State → Round → ℕ → Type 0 where
+  reply : (q : Round) (n : ℕ) → Numbered (state.Reply q n) q n
+  acknowledged : (q : Round) (n : ℕ) → Numbered (state.Acknowledged q n) q n
+  open : (k : Link) → Numbered (state.Open k) (k .round) (k .handle)
+  secured : (k : Link) → Numbered (state.Secured k) (k .round) (k .handle)
+
+-- every state of a round, Arbitrate to Secured
+abbrev pub InRound : State → Round → Type 0
+InRound st q = (Σ ℕ (λ slot. Slotted st q slot)) ⊎ Singled st q
+
+-- 11.5: a Query of session k, first: in Acknowledged, Open and Secured its flag is inverted, if the round's session is k; else none moves
+abbrev pub FirstStep : State → ℕ → Flags → Flags → Type 0
+FirstStep st k f g = (Σ Round (λ q. Singled st q × (q .session ≡ k) × (g ≡ withFlag f k (not (flagAt f k)))))
+    ⊎ (((q : Round) → Singled st q → q .session ≢ k) × (g ≡ f))
+
+-- then the tag matches: by Sel and SL, and by the target, 0 for A and 1 for B, and the flag of the Query's session
+abbrev pub Matches : Flags → ℕ → ℕ → ℕ → Type 0
+Matches f sel t k = ((sel < 2) ⊎ ((sel ≡ 2) × (f .sl ≡ false)) ⊎ ((sel ≡ 3) × (f .sl ≡ true)))
+    × (((t ≡ 0) × (flagAt f k ≡ false)) ⊎ ((t ≡ 1) × (flagAt f k ≡ true)))
+
+-- 11.3: Q by UpDn: 110 one more, at most 15; 000 as it is; 011 one less, at least 0
+abbrev pub Adjusts : ℕ → ℕ → ℕ → Type 0
+Adjusts u old new = ((u ≡ 6) × (old < 15) × (new ≡ old + 1)) ⊎ ((u ≡ 6) × (15 ≤ old) × (new ≡ 15))
+    ⊎ ((u ≡ 0) × (new ≡ old))
+    ⊎ ((u ≡ 3) × (1 ≤ old) × (old ≡ new + 1))
+    ⊎ ((u ≡ 3) × (old ≡ 0) × (new ≡ 0))
+
+-- a slot counted down by one, 0 to 7FFFh
+abbrev pub CountsDown : ℕ → ℕ → Type 0
+CountsDown slot next = ((slot ≡ 0) × (next ≡ 0x7FFF)) ⊎ (slot ≡ next + 1)
+
+-- 11.4: a Select's mask, n bits of the frame f from bit `at` on, is the bits of bank b from its bit p on, none of them past the bank's end
+pub record Selected (y : Layout) (m f : List ℕ) (b p n at : ℕ) : Type 0 where
+  pub begins : p < 16 * bankOf y b .words
+  pub ends : p + n ≤ 16 * bankOf y b .words
+  pub bits : (j : ℕ) → j < n → bitAt m (16 * bankOf y b .at + p + j) ≡ bitAt f (at + j)
+
+-- a Select that has a flag, S0 to S3 or SL, and a bank, EPC, TID or USER, and asks for no truncation
+abbrev pub Takeable : Choice → Type 0
+Takeable c = (c .target ≤ 4) × (c .bits .bank ≢ 0) × (c .truncate ≡ 0)

@@ -1,4 +1,4 @@
--- What a frame's bits say (RULES 3.6 to 3.8), as facts: codes, places and lengths of each command, and EBV-8 pointers group by group.
+-- What a frame's bits say (RULES 3.6 to 3.8 and 11.1), as facts: codes, places and lengths of each command, and EBV-8 pointers group by group.
 -- Assumes nothing.
 use Prim.Native.Nat.{ℕ, _+_, _-_, _*_, _≤_, _<_}
 use mathlib.Core.Path.{_≡_}
@@ -13,6 +13,7 @@ use Rattle.frames.specs.declared.Order.the-variants as order
 use Rattle.frames.specs.Message as heard
 use Rattle.frames.specs.Frames.{span, heardOf}
 use Rattle.crc.specs.Crc.{crcOf}
+use Rattle.crc.specs.Crc5.{crc5Of}
 
 -- a frame's last 16 bits are the CRC-16 of those before them
 abbrev pub Summed : List ℕ → ℕ → Type 0
@@ -25,15 +26,37 @@ pub record Takes (f : List ℕ) (n k : ℕ) (o : Order) : Type 0 where
   pub length : n ≢ k → heardOf f n ≡ heard.refused 7
   pub checksum : n ≡ k → (Summed f n → ⊥) → heardOf f n ≡ heard.refused 8
 
+-- a frame of k bits without a CRC; and one with a checksum and no number
+pub record Plain (f : List ℕ) (n k : ℕ) (o : Order) : Type 0 where
+  pub right : n ≡ k → heardOf f n ≡ heard.said (record { number = 0; order = o })
+  pub length : n ≢ k → heardOf f n ≡ heard.refused 7
+
+pub record Checked (f : List ℕ) (n k : ℕ) (sum : Type 0) (o : Order) : Type 0 where
+  pub right : n ≡ k → sum → heardOf f n ≡ heard.said (record { number = 0; order = o })
+  pub length : n ≢ k → heardOf f n ≡ heard.refused 7
+  pub checksum : n ≡ k → (sum → ⊥) → heardOf f n ≡ heard.refused 8
+
 -- after a pointer at bit i of the value p in e bytes; without one it is 7
 abbrev pub After : List ℕ → ℕ → ℕ → (ℕ → ℕ → Type 0) → Type 0
 After f n i P = ((p e : ℕ) → pointerAt f n i ≡ pointer.whole p e → P p e)
     × (pointerAt f n i ≡ pointer.refused 7 → heardOf f n ≡ heard.refused 7)
 
--- a frame of n bits, at least 8, in bytes that hold them; the first eight are its code
+-- a frame of n bits, at least 4, in bytes that hold them; the first two, four or eight are its code
 pub record Coded (f : List ℕ) (n : ℕ) : Type 0 where
-  pub nak : fieldAt f 0 8 ≡ 0xC0 → (n ≡ 8 → heardOf f n ≡ heard.said (record { number = 0; order = order.Nak }))
-      × (n ≢ 8 → heardOf f n ≡ heard.refused 7)
+  pub query-rep : fieldAt f 0 2 ≡ 0 → Plain f n 4 (order.QueryRep (fieldAt f 2 2))
+  pub ack : fieldAt f 0 2 ≡ 1 → Plain f n 18 (order.Ack (fieldAt f 2 16))
+  -- DR, M and TRext, four bits, are read over; then Sel, session, target and Q; the CRC-5 covers them all
+  pub query : fieldAt f 0 4 ≡ 8
+      → Checked f n 22 (fieldAt f 17 5 ≡ crc5Of (bitsFrom f 0 17))
+      (order.Query (fieldAt f 8 2) (fieldAt f 12 1) (record { session = fieldAt f 10 2; q = fieldAt f 13 4 }))
+  pub query-adjust : fieldAt f 0 4 ≡ 9 → Plain f n 9 (order.QueryAdjust (fieldAt f 4 2) (fieldAt f 6 3))
+  -- target, action, bank, pointer, length, the mask and the truncate bit
+  pub select : fieldAt f 0 4 ≡ 10
+      → After f n 12 (λ p e. let l = fieldAt f (12 + 8 * e) 8 in
+      Checked f n (37 + 8 * e + l) (Summed f n)
+      (order.Select (record { target = fieldAt f 4 3; action = fieldAt f 7 3; bits = span (fieldAt f 10 2) p l; truncate = fieldAt f (20 + 8 * e + l) 1 })
+      (20 + 8 * e)))
+  pub nak : fieldAt f 0 8 ≡ 0xC0 → Plain f n 8 order.Nak
   pub req-rn : fieldAt f 0 8 ≡ 0xC1 → Takes f n 40 order.ReqRn
   pub read : fieldAt f 0 8 ≡ 0xC2
       → After f n 10 (λ p e. Takes f n (50 + 8 * e) (order.Read (span (fieldAt f 8 2) p (fieldAt f (10 + 8 * e) 8))))
@@ -54,7 +77,7 @@ pub record Coded (f : List ℕ) (n : ℕ) : Type 0 where
   pub permalock : fieldAt f 0 8 ≡ 0xC9 → fieldAt f 16 1 ≢ 0
       → After f n 19 (λ p e. let c = fieldAt f (19 + 8 * e) 8 in
       Takes f n (59 + 8 * e + 16 * c) (order.Permalock (fieldAt f 8 8) (span (fieldAt f 17 2) p c) (27 + 8 * e)))
-  pub unknown : (fieldAt f 0 8 < 0xC0) ⊎ (0xC9 < fieldAt f 0 8) → heardOf f n ≡ heard.refused 7
+  pub unknown : ((0xB0 ≤ fieldAt f 0 8) × (fieldAt f 0 8 < 0xC0)) ⊎ (0xC9 < fieldAt f 0 8) → heardOf f n ≡ heard.refused 7
 
 -- groups of eight bits from bit i on, each but the last at least 80h: one to three, within the frame's n bits
 pub record Groups (f : List ℕ) (n i : ℕ) : Type 0 where
@@ -69,6 +92,6 @@ pub record Groups (f : List ℕ) (n i : ℕ) : Type 0 where
   pub short-three : n < i + 24 → 128 ≤ fieldAt f i 8 → 128 ≤ fieldAt f (i + 8) 8 → pointerAt f n i ≡ pointer.refused 7
 
 pub record Fields : Type 0 where
-  pub coded : (f : List ℕ) (n : ℕ) → 8 ≤ n → n ≤ 8 * length f → Coded f n
+  pub coded : (f : List ℕ) (n : ℕ) → 4 ≤ n → n ≤ 8 * length f → Coded f n
   pub groups : (f : List ℕ) (n i : ℕ) → Groups f n i
-  pub none : (f : List ℕ) (n : ℕ) → (n < 8) ⊎ (8 * length f < n) → heardOf f n ≡ heard.refused 7
+  pub none : (f : List ℕ) (n : ℕ) → (n < 4) ⊎ (8 * length f < n) → heardOf f n ≡ heard.refused 7

@@ -2,13 +2,16 @@
 -- a definition which became another breaks a demand. Assumes nothing.
 use Prim.Native.Nat.{ℕ, suc, _+_, _-_, _*_, _/_, _%_, _^_, _≤_, _<_}
 use mathlib.Core.Path.{_≡_}
-use mathlib.Core.Bool.{Bool, false, cond}
+use mathlib.Core.Logic.{_≢_}
+use mathlib.Core.Bool.{Bool, true, false, cond, not}
 use mathlib.Core.List.{List, [], _∷_, _++_}
 use lib.Bits.{bitXor}
+use lib.Dec.{eqb}
 use lib.ListN.{getD, length, set}
 use Rattle.bits.specs.Words.{wordAt, Store, store, after}
 use Rattle.bits.specs.Bits.{bitAt, fieldAt, bitsOf, wordsBits}
 use Rattle.crc.specs.Crc.{crcOf}
+use Rattle.crc.specs.Crc5.{crc5Of}
 use Rattle.image.specs.declared.Layout.{Layout}
 use Rattle.image.specs.declared.Section.{Section}
 use Rattle.image.specs.Layout.{layoutOf, blocksIn, pairsIn}
@@ -17,13 +20,18 @@ use Rattle.replies.specs.declared.Reply.the-variants as reply
 use Rattle.replies.specs.Replies.{replyBits}
 use Rattle.replies.specs.Pack.{packed}
 use Rattle.rights.specs.Rights.{bankOf, pwdBit, permaBit, lockedTo, faultNumber}
-use Rattle.states.specs.Commands.{killWord, accessWord}
+use Rattle.frames.specs.declared.Round.{Round}
+use Rattle.states.specs.Commands.{killWord, accessWord, fallen}
+use Rattle.states.specs.Inventory.{flagAt, withFlag, flagAfter}
+use Rattle.states.specs.declared.Flags.{Flags}
+use Rattle.states.specs.declared.Link.{Link}
 use Rattle.states.specs.declared.State.{State}
+use Rattle.states.specs.declared.State.the-variants as state
 use Rattle.stores.specs.Stores.{staged, changeStores, epcCrc, powerStores}
 use Rattle.tag.specs.declared.Register.{Register}
 use Rattle.tag.specs.declared.Power.the-variants as power
 use Rattle.rights.specs.declared.Fault.the-variants as fault
-use Rattle.tag.specs.Session.{offSession, on, clear}
+use Rattle.tag.specs.Session.{offSession, on, newFlags, clear}
 use Rattle.tag.specs.Port.{numberIn}
 use Rattle.demands.specs.Facts.{bitIn, LockedBy}
 use Rattle.demands.specs.Fields.{Fields}
@@ -41,6 +49,28 @@ sealed bs = bs ++ bitsOf 16 (crcOf bs)
 abbrev pub divided : ℕ → List ℕ → ℕ
 divided r [] = r
 divided r (b ∷ bs) = divided (bitXor (r * 2 % 65536) (bitXor (r / 32768) b * 0x1021)) bs
+
+-- a register of 5 bits, likewise, with the generator x^5 + x^3 + 1
+abbrev pub divided5 : ℕ → List ℕ → ℕ
+divided5 r [] = r
+divided5 r (b ∷ bs) = divided5 (bitXor (r * 2 % 32) (bitXor (r / 16) b * 0x09)) bs
+
+-- 11.2 and 11.4: flag 0 to 3 is the inventoried flag of that session, flag 4 is SL; one set leaves the others; and what a Select's actions
+-- make of flag t with the value b, where the mask matches and where it does not: assert SL or A is `eqb t 4`
+pub record Flagged (f : Flags) : Type 0 where
+  pub read : (flagAt f 0 ≡ f .s0) × (flagAt f 1 ≡ f .s1) × (flagAt f 2 ≡ f .s2) × (flagAt f 3 ≡ f .s3) × (flagAt f 4 ≡ f .sl)
+  pub set : (t : ℕ) (b : Bool) → t ≤ 4 → flagAt (withFlag f t b) t ≡ b
+  pub kept : (t k : ℕ) (b : Bool) → t ≤ 4 → k ≤ 4 → k ≢ t → flagAt (withFlag f t b) k ≡ flagAt f k
+
+pub record Acting (t : ℕ) (b : Bool) : Type 0 where
+  pub action0 : (flagAfter t 0 true b ≡ eqb t 4) × (flagAfter t 0 false b ≡ not (eqb t 4))
+  pub action1 : (flagAfter t 1 true b ≡ eqb t 4) × (flagAfter t 1 false b ≡ b)
+  pub action2 : (flagAfter t 2 true b ≡ b) × (flagAfter t 2 false b ≡ not (eqb t 4))
+  pub action3 : (flagAfter t 3 true b ≡ not b) × (flagAfter t 3 false b ≡ b)
+  pub action4 : (flagAfter t 4 true b ≡ not (eqb t 4)) × (flagAfter t 4 false b ≡ eqb t 4)
+  pub action5 : (flagAfter t 5 true b ≡ not (eqb t 4)) × (flagAfter t 5 false b ≡ b)
+  pub action6 : (flagAfter t 6 true b ≡ b) × (flagAfter t 6 false b ≡ eqb t 4)
+  pub action7 : (flagAfter t 7 true b ≡ b) × (flagAfter t 7 false b ≡ not b)
 
 -- the image m of the layout y
 pub record Words (y : Layout) (m : List ℕ) : Type 0 where
@@ -68,6 +98,9 @@ pub record Bits (m : List ℕ) : Type 0 where
   pub success : (h : ℕ) → replyBits m (reply.Success h) ≡ sealed (0 ∷ bitsOf 16 h)
   pub words : (i k h : ℕ) → replyBits m (reply.Words i k h) ≡ sealed ((0 ∷ wordsBits m i k) ++ bitsOf 16 h)
   pub error : (e h : ℕ) → replyBits m (reply.Error e h) ≡ sealed ((1 ∷ bitsOf 8 e) ++ bitsOf 16 h)
+  -- the number of a tag in Reply has no CRC; PC and EPC have no bit before them and no handle
+  pub drawn : (n : ℕ) → replyBits m (reply.Drawn n) ≡ bitsOf 16 n
+  pub epc : (i k : ℕ) → replyBits m (reply.Epc i k) ≡ sealed (wordsBits m i k)
   pub none : (room : List ℕ) → packed [] room ≡ room
   pub byte : (b c d e f g h i x : ℕ) (bs room : List ℕ)
       → packed (b ∷ c ∷ d ∷ e ∷ f ∷ g ∷ h ∷ i ∷ bs) (x ∷ room)
@@ -106,6 +139,9 @@ pub record Terms : Type 0 where
   pub counted-none : (f : ℕ → Store) → below f 0 ≡ []
   -- the CRC-16: the complement of what is left of the bits behind FFFFh, divided by x^16 + x^12 + x^5 + 1
   pub crc : (bs : List ℕ) → crcOf bs ≡ 0xFFFF - divided 0xFFFF bs
+  pub crc5 : (bs : List ℕ) → crc5Of bs ≡ divided5 0x09 bs
+  pub flags : (f : Flags) → Flagged f
+  pub actions : (t : ℕ) (b : Bool) → Acting t b
   pub header : (m : List ℕ) → Headed m (layoutOf m)
   pub images : Images
   pub words : (y : Layout) (m : List ℕ) → Words y m
@@ -130,10 +166,16 @@ pub record Terms : Type 0 where
   pub staged-all : (a : ℕ) → staged a [] ≡ []
   pub register : (r : Register) → numberIn r ≡ cond (r .unwritten) 2 0 + cond (r .killed) 1 0
   pub cleared : clear ≡ record { unwritten = false; killed = false }
-  -- a session is Off, or it is under power with a state, the port held or free, and a register
+  -- a session is Off, or it is under power with flags, a state, the port held or free, and a register
   pub off : offSession ≡ record { power = power.Off }
-  pub under : (st : State) (held : Bool) (r : Register) → on st held r
-      ≡ record { power = power.On (record { state = st; held = held; register = r }) }
+  pub under : (f : Flags) (st : State) (held : Bool) (r : Register) → on f st held r
+      ≡ record { power = power.On (record { flags = f; state = st; held = held; register = r }) }
+  pub new-flags : newFlags ≡ record { s0 = false; s1 = false; s2 = false; s3 = false; sl = false }
+  -- a tag that falls back is in Arbitrate, in the round that it was in; with slot 0 but where it was there
+  pub fell : (q : Round) (n : ℕ) (k : Link) → (fallen (state.Arbitrate q n) ≡ state.Arbitrate q n) × (fallen (state.Reply q n) ≡ state.Arbitrate q 0)
+      × (fallen (state.Acknowledged q n) ≡ state.Arbitrate q 0)
+      × (fallen (state.Open k) ≡ state.Arbitrate (k .round) 0)
+      × (fallen (state.Secured k) ≡ state.Arbitrate (k .round) 0)
   -- what an answer leaves: without reply and store, and with a reply of k bits and j stores
   pub leaving : (n : ℕ) (s : Session) (m room : List ℕ)
       → leaves n s m room ≡ record { number = n; session = s; reply = 0; stores = 0; value = 0; image = m; room = room }

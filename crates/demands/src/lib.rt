@@ -21,12 +21,6 @@ pub fn power_up(session: Session, image: &mut [u8], s: usize) -> Outcome
     tag::power_up(image, s)
 }
 
-pub fn admit(session: Session, number: u16) -> Outcome
-    ensures { λ r. ⌜ Meets answerOf (tagOf session []) (call.admit number) r [] [] ⌝ }
-{
-    session.admit(number)
-}
-
 pub fn frame(
     session: Session,
     image: &mut [u8],
