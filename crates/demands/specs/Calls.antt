@@ -1,6 +1,7 @@
 -- The public operations as calls of one tag, and what their promises say of each (RULES 5 and 7.1). Assumes nothing.
 use Prim.Native.Nat.{ℕ, suc}
 use mathlib.Core.Path.{_≡_}
+use mathlib.Core.Bool.{Bool}
 use mathlib.Core.List.{List, [], _∷_}
 use Rattle.bits.specs.Words.{Store}
 use Rattle.image.specs.declared.Layout.{Layout}

@@ -108,23 +108,23 @@ pub data Slotted : State → Round → ℕ → Type 0 where
 -- Acknowledged, Open and Secured, by their round
 pub data Singled : State → Round → Type 0 where
   acknowledged : (q : Round) (n : ℕ) → Singled (state.Acknowledged q n) q
-  open : (k : Link) → Singled (state.Open k) (k .round)
+  opened : (k : Link) → Singled (state.Open k) (k .round)
   secured : (k : Link) → Singled (state.Secured k) (k .round)
 
 -- Reply, Acknowledged, Open and Secured, by their round and their number or handle
 pub data Numbered : State → Round → ℕ → Type 0 where
   reply : (q : Round) (n : ℕ) → Numbered (state.Reply q n) q n
   acknowledged : (q : Round) (n : ℕ) → Numbered (state.Acknowledged q n) q n
-  open : (k : Link) → Numbered (state.Open k) (k .round) (k .handle)
+  opened : (k : Link) → Numbered (state.Open k) (k .round) (k .handle)
   secured : (k : Link) → Numbered (state.Secured k) (k .round) (k .handle)
 
 -- every state of a round, Arbitrate to Secured
 abbrev pub InRound : State → Round → Type 0
-InRound st q = (Σ ℕ (λ slot. Slotted st q slot)) ⊎ Singled st q
+InRound st q = ((slot : ℕ) × Slotted st q slot) ⊎ Singled st q
 
 -- 11.5: a Query of session k, first: in Acknowledged, Open and Secured its flag is inverted, if the round's session is k; else none moves
 abbrev pub FirstStep : State → ℕ → Flags → Flags → Type 0
-FirstStep st k f g = (Σ Round (λ q. Singled st q × (q .session ≡ k) × (g ≡ withFlag f k (not (flagAt f k)))))
+FirstStep st k f g = ((q : Round) × Singled st q × (q .session ≡ k) × (g ≡ withFlag f k (not (flagAt f k))))
     ⊎ (((q : Round) → Singled st q → q .session ≢ k) × (g ≡ f))
 
 -- then the tag matches: by Sel and SL, and by the target, 0 for A and 1 for B, and the flag of the Query's session
