@@ -13,6 +13,8 @@ use Rattle.bits.specs.Words.{wordAt, Store, store, after}
 use Rattle.image.specs.declared.Layout.{Layout}
 use Rattle.image.specs.Layout.{layoutOf, pairsIn}
 use Rattle.image.proofs.Answers.{check-good, check-0}
+use Rattle.frames.specs.declared.Round.{Round}
+use Rattle.frames.specs.declared.Choice.{Choice}
 use Rattle.frames.specs.declared.Command.{Command}
 use Rattle.frames.specs.declared.Order.{Order}
 use Rattle.frames.specs.declared.Order.the-variants as order
@@ -35,11 +37,11 @@ use Rattle.states.specs.declared.Half.{Half}
 use Rattle.states.specs.declared.Half.the-variants as half
 use Rattle.states.specs.declared.Link.{Link}
 use Rattle.states.specs.declared.Part.the-variants as part
-use Rattle.tag.specs.declared.Register.{Register}
+use Rattle.states.specs.declared.Flags.{Flags}
+use Rattle.states.proofs.Gates.{Named}
 use Rattle.states.specs.declared.State.{State}
 use Rattle.states.specs.declared.State.the-variants as state
 use Rattle.tag.specs.declared.Session.{Session}
-use Rattle.tag.specs.Session.{on}
 use Rattle.tag.specs.Result.{Result, leaves, lost, firstOf}
 use Rattle.tag.specs.Steps.{gives, input}
 use Rattle.states.specs.Commands.{asksOf, linkOf, isCovered, isKilled, breaks, accessWord, isLinked}
@@ -48,44 +50,49 @@ use Rattle.states.specs.Commands as wide
 use Rattle.states.specs.declared.Who.{Who}
 use Rattle.states.specs.declared.Who.the-variants as who
 use Rattle.plans.specs.Effects.{Effect, effectOf}
-use Rattle.tag.specs.Table.{Input, refusedBy, commandIn, scene, effect, isError, replyOr, replyOf, fits, frameOf, admitOf}
-use Rattle.demands.specs.Facts.{marked}
+use Rattle.tag.specs.Table.{Input, refusedBy, commandIn, scene, effect, isError, replyOr, replyOf, fits, frameOf}
+use Rattle.demands.specs.Facts.{marked, Slotted, Singled, Numbered, FirstStep, Matches, Adjusts, CountsDown, Selected, Takeable}
+use Rattle.demands.specs.Facts as facts
 use Rattle.demands.proofs.Rights.{marked-words, marked-every}
 use Rattle.demands.proofs.Terms.{terms-so}
 use Rattle.tag.specs.Port.{badCount, badData, refusals, withKilled, withUnwritten, someUnwritten, writtenWords, readBits, portWords, askOf, releaseOf, registerOf, readOf, writeOf}
-use Rattle.demands.specs.Calls.{answerOf, Idle}
-use Rattle.demands.specs.Commands.{Air, answersTo, linked, link, obeyed, Does, Radio, NoImage, Transfers, Demand2}
+use Rattle.demands.specs.Calls.{Aside, awake, answerOf, Idle}
+use Rattle.demands.specs.Commands.{Air, answersTo, linked, link, registered, flagged, quiet, replies, showsEpc, obeyed, Turns, Does, Rounds, Radio, NoImage, Transfers, Demand2}
 use Rattle.demands.proofs.Rows.{Rows, None, none-first}
 use Rattle.demands.proofs.Cuts.{started-so}
 use Rattle.demands.proofs.Codes.{and-false, read-clear, write-clear, lock-clear, perma-read-clear, perma-clear}
 
 -- states by name
 not-killed : (st : State) → st ≢ state.Killed → isKilled st ≡ false
-not-killed state.Arbitrate d = refl
-not-killed (state.Acknowledged n) d = refl
+not-killed state.Ready d = refl
+not-killed (state.Arbitrate q n) d = refl
+not-killed (state.Reply q n) d = refl
+not-killed (state.Acknowledged q n) d = refl
 not-killed (state.Open k) d = refl
 not-killed (state.Secured k) d = refl
 not-killed state.Killed d = absurd (d refl)
 
 not-linked : (st : State) → ((q : Bool) (k : Link) → st ≢ linked q k) → isLinked st ≡ false
-not-linked state.Arbitrate d = refl
-not-linked (state.Acknowledged n) d = refl
+not-linked state.Ready d = refl
+not-linked (state.Arbitrate q n) d = refl
+not-linked (state.Reply q n) d = refl
+not-linked (state.Acknowledged q n) d = refl
 not-linked (state.Open k) d = absurd (d false k refl)
 not-linked (state.Secured k) d = absurd (d true k refl)
 not-linked state.Killed d = refl
 
 -- the frame that was heard as x comes to the last row
-module _ (a : Air) (st : State) (r : Register) (idle : Idle (layoutOf (a .image)) (a .image)) where
+module _ (a : Air) (st : State) (r : Aside) (idle : Idle (layoutOf (a .image)) (a .image)) where
   handed : Input
-  handed = input (on st false r) (a .image) (a .frame) (a .bits) (a .fresh) (a .room) (a .power)
+  handed = input (awake st false r) (a .image) (a .frame) (a .bits) (a .fresh) (a .room) (a .power)
 
   -- answer 0 as the table has it
-  given : Reply → State → List Store → Result
-  given rp st′ ws =
+  given : Reply → Flags → State → List Store → Result
+  given rp f st′ ws =
       let ss = changeStores (layoutOf (a .image) .work .at) ws in
       record {
         number = 0;
-        session = on st′ false r;
+        session = awake st′ false (flagged r f);
         reply = replyLength rp;
         stores = length ss;
         value = 0;
@@ -94,11 +101,12 @@ module _ (a : Air) (st : State) (r : Register) (idle : Idle (layoutOf (a .image)
       }
 
   -- and by the reply's bits
-  given-done : (rp : Reply) (st′ : State) (ws : List Store) → given rp st′ ws ≡ obeyed (layoutOf (a .image)) a r (record { state = st′; reply = rp; words = ws })
+  given-done : (rp : Reply) (f : Flags) (st′ : State) (ws : List Store)
+      → given rp f st′ ws ≡ obeyed (layoutOf (a .image)) a (flagged r f) (record { state = st′; reply = rp; words = ws })
   unfolding given
-  given-done rp st′ ws =
+  given-done rp f st′ ws =
       let ss = changeStores (layoutOf (a .image) .work .at) ws in
-      ap (λ (k : ℕ). record { number = 0; session = on st′ false r; reply = k; stores = length ss; value = 0; image = after (a .image) ss; room = packed (replyBits (a .image) rp) (a .room) })
+      ap (λ (k : ℕ). record { number = 0; session = awake st′ false (flagged r f); reply = k; stores = length ss; value = 0; image = after (a .image) ss; room = packed (replyBits (a .image) rp) (a .room) })
       (sym (length-reply (a .image) rp))
 
   in-bytes : (rp : Reply) → length (replyBits (a .image) rp) ≤ 8 * length (a .room) → replyBytes rp ≤ length (a .room)
@@ -170,73 +178,93 @@ module _ (a : Air) (st : State) (r : Register) (idle : Idle (layoutOf (a .image)
           ),
         )
 
-    last-row : answersTo answerOf a (on st false r) ≡ given (comes .reply) (comes .state) (comes .words)
+    last-row : answersTo answerOf a (awake st false r) ≡ given (comes .reply) (comes .flags) (comes .state) (comes .words)
     unfolding frameOf handed given
     last-row =
         none-first (frameOf changeStores handed .rows) (frameOf changeStores handed .done) none
-        ∙ ap (λ (q : Reply). given q (effect handed .state) (effect handed .words)) reply-is
-        ∙ ap (λ (z : Effect). given (comes .reply) (z .state) (z .words)) effect-is
+        ∙ ap (λ (q : Reply). given q (effect handed .flags) (effect handed .state) (effect handed .words)) reply-is
+        ∙ ap (λ (z : Effect). given (comes .reply) (z .flags) (z .state) (z .words)) effect-is
 
--- an order in Secured and Open with the handle is heard, in Open where it does not need Secured
+-- an order in Secured and Open with the handle is heard, in Open where it does not need Secured; one to every tag apart
 abbrev pub needsSecured : Who → Bool
 needsSecured who.Everyone = false
-needsSecured who.Admitted = false
+needsSecured who.InRound = false
+needsSecured (who.InSession k) = false
+needsSecured who.Replied = false
+needsSecured who.Acknowledged = false
 needsSecured who.Linked = false
 needsSecured who.Secured = true
 
-heard-secured : (w : Who) (k : Link) → wide.hears w (state.Secured k) (k .handle) ≡ true
-heard-secured who.Everyone k = refl
-heard-secured who.Admitted k = eq-eqb (k .handle) (k .handle) refl
-heard-secured who.Linked k = eq-eqb (k .handle) (k .handle) refl
-heard-secured who.Secured k = eq-eqb (k .handle) (k .handle) refl
+heard-secured : (w : Who) (k : Link) → Named w → wide.hears w (state.Secured k) (k .handle) ≡ true
+heard-secured who.Everyone k d = absurd d
+heard-secured who.InRound k d = absurd d
+heard-secured (who.InSession n) k d = absurd d
+heard-secured who.Replied k d = absurd d
+heard-secured who.Acknowledged k d = eq-eqb (k .handle) (k .handle) refl
+heard-secured who.Linked k d = eq-eqb (k .handle) (k .handle) refl
+heard-secured who.Secured k d = eq-eqb (k .handle) (k .handle) refl
 
-heard-open : (w : Who) (k : Link) → needsSecured w ≡ false → wide.hears w (state.Open k) (k .handle) ≡ true
-heard-open who.Everyone k e = refl
-heard-open who.Admitted k e = eq-eqb (k .handle) (k .handle) refl
-heard-open who.Linked k e = eq-eqb (k .handle) (k .handle) refl
-heard-open who.Secured k e = absurd (true≢false e)
+heard-open : (w : Who) (k : Link) → Named w → needsSecured w ≡ false → wide.hears w (state.Open k) (k .handle) ≡ true
+heard-open who.Everyone k d e = absurd d
+heard-open who.InRound k d e = absurd d
+heard-open (who.InSession n) k d e = absurd d
+heard-open who.Replied k d e = absurd d
+heard-open who.Acknowledged k d e = eq-eqb (k .handle) (k .handle) refl
+heard-open who.Linked k d e = eq-eqb (k .handle) (k .handle) refl
+heard-open who.Secured k d e = absurd (true≢false e)
 
 -- an order that is heard, for the tag, whose halves are not broken and to which no code applies
-module _ (a : Air) (r : Register) (idle : Idle (layoutOf (a .image)) (a .image)) where
+module _ (a : Air) (r : Aside) (q : Round) (idle : Idle (layoutOf (a .image)) (a .image)) where
   -- what an order comes to in a state
   at : State → Order → Effect
-  at st o = effectOf (record { layout = layoutOf (a .image); image = a .image; state = st; frame = a .frame; fresh = a .fresh }) o
+  at st o = effectOf (record { layout = layoutOf (a .image); image = a .image; flags = r .flags; state = st; frame = a .frame; fresh = a .fresh }) o
 
   -- it comes to its effect
   Comes : ℕ → Order → State → Type 0
-  Comes n o st = Does answerOf (layoutOf (a .image)) a r n o st (record { state = at st o .state; reply = at st o .reply; words = at st o .words })
+  Comes n o st = Turns answerOf (layoutOf (a .image)) a r q n o st (at st o .flags) (record { state = at st o .state; reply = at st o .reply; words = at st o .words })
 
   order-done : (st : State) (n : ℕ) (o : Order) → wrongCommand st (record { number = n; order = o }) ≡ false
       → breaks (layoutOf (a .image)) (a .image) (linkOf st) (linkOf st .half) (asksOf o .part) ≡ false → at st o .code ≡ code.Nothing → Comes n o st
   unfolding handed given comes at Comes
   order-done st n o w b e says enough =
       last-row a st r idle (record { number = n; order = o }) says w b e (in-bytes a st r idle (at st o .reply) (enough .0)) (enough .1)
-      ∙ given-done a st r idle (at st o .reply) (at st o .state) (at st o .words)
+      ∙ given-done a st r idle (at st o .reply) (at st o .flags) (at st o .state) (at st o .words)
 
-  secured-done : (k : Link) (o : Order) → asksOf o .cover && not (isCovered (k .cover)) ≡ false → asksOf o .bad ≡ false
+  secured-done : (k : Link) (o : Order) → Named (asksOf o .who) → asksOf o .cover && not (isCovered (k .cover)) ≡ false → asksOf o .bad ≡ false
       → breaks (layoutOf (a .image)) (a .image) k (k .half) (asksOf o .part) ≡ false → at (state.Secured k) o .code ≡ code.Nothing → Comes (k .handle) o (state.Secured k)
-  secured-done k o c d b e = order-done (state.Secured k) (k .handle) o (rw (heard-secured (asksOf o .who) k, c, d)) b e
+  secured-done k o t c d b e = order-done (state.Secured k) (k .handle) o (rw (heard-secured (asksOf o .who) k t, c, d)) b e
 
-  open-done : (k : Link) (o : Order) → needsSecured (asksOf o .who) ≡ false → asksOf o .cover && not (isCovered (k .cover)) ≡ false → asksOf o .bad ≡ false
+  open-done : (k : Link) (o : Order) → Named (asksOf o .who) → needsSecured (asksOf o .who) ≡ false → asksOf o .cover && not (isCovered (k .cover)) ≡ false → asksOf o .bad ≡ false
       → breaks (layoutOf (a .image)) (a .image) k (k .half) (asksOf o .part) ≡ false → at (state.Open k) o .code ≡ code.Nothing → Comes (k .handle) o (state.Open k)
-  open-done k o s c d b e = order-done (state.Open k) (k .handle) o (rw (heard-open (asksOf o .who) k s, c, d)) b e
+  open-done k o t s c d b e = order-done (state.Open k) (k .handle) o (rw (heard-open (asksOf o .who) k t s, c, d)) b e
 
   unbroken : (k : Link) (p : Half) → breaks (layoutOf (a .image)) (a .image) k p part.Between ≡ false
   unbroken k half.Nothing = refl
   unbroken k (half.Access up) = refl
   unbroken k (half.Kill up) = refl
 
-  nak-done : (st : State) → st ≢ state.Killed → Comes 0 order.Nak st
-  unfolding at
-  nak-done st k = order-done st 0 order.Nak (rw (not-killed st k)) (unbroken (linkOf st) (linkOf st .half)) refl
+-- NAK, and the commands of inventory
+module _ (a : Air) (r : Aside) (idle : Idle (layoutOf (a .image)) (a .image)) where
+  -- NAK in each state of a round
+  nak-done : (st : State) (q : Round) (slot : ℕ) → Slotted st q slot → Does answerOf (layoutOf (a .image)) a r q 0 order.Nak st (quiet (state.Arbitrate q slot))
+  unfolding at Comes
+  nak-done st q slot (facts.arbitrate p s) = order-done a r q idle (state.Arbitrate q slot) 0 order.Nak refl refl refl
+  nak-done st q slot (facts.reply p n) = order-done a r q idle (state.Reply q n) 0 order.Nak refl refl refl
 
+  nak-singled : (st : State) (q : Round) → Singled st q → Does answerOf (layoutOf (a .image)) a r q 0 order.Nak st (quiet (state.Arbitrate q 0))
+  unfolding at Comes
+  nak-singled st q (facts.acknowledged p n) = order-done a r q idle (state.Acknowledged q n) 0 order.Nak refl refl refl
+  nak-singled st q (facts.opened k) = order-done a r q idle (state.Open k) 0 order.Nak refl (unbroken a r q idle k (k .half)) refl
+  nak-singled st q (facts.secured k) = order-done a r q idle (state.Secured k) 0 order.Nak refl (unbroken a r q idle k (k .half)) refl
+
+module _ (a : Air) (r : Aside) (q : Round) (idle : Idle (layoutOf (a .image)) (a .image)) where
   some : (n : ℕ) → 1 ≤ n → eqb n 0 ≡ false
   some n l = ne-eqb n 0 (λ e. omega arith)
 
   -- the state that Req_RN opens, by the access password; and words of a Read
   numbered-so : Bool → Result
   numbered-so t =
-      let k = link (a .fresh) cover.Nothing half.Nothing in
+      let k = link q (a .fresh) cover.Nothing half.Nothing in
       obeyed (layoutOf (a .image)) a r (record { state = cond t (state.Secured k) (state.Open k); reply = reply.Number (a .fresh); words = [] })
 
   nonzero : (u v : ℕ) → (u ≢ 0) ⊎ (v ≢ 0) → eqb u 0 && eqb v 0 ≡ false
@@ -255,66 +283,72 @@ module _ (a : Air) (r : Register) (idle : Idle (layoutOf (a .image)) (a .image))
   right : (up low u v : ℕ) → up ≡ u → low ≡ v → not (eqb up u && eqb low v) ≡ false
   right up low u v i j = ap not (ap₂ _&&_ (eq-eqb up u i) (eq-eqb low v j))
 
-  radio : Radio answerOf (layoutOf (a .image)) a r
+  radio : Rounds answerOf (layoutOf (a .image)) a r q → Radio answerOf (layoutOf (a .image)) a r q
   unfolding at Comes numbered-so
-  radio =
+  radio rounds =
       record {
+        rounds = rounds;
         req-rn = λ n i j says enough.
-            order-done (state.Acknowledged n) n order.ReqRn (rw (eq-eqb n n refl)) refl refl says enough
+            order-done a r q idle (state.Acknowledged q n) n order.ReqRn (rw (eq-eqb n n refl)) refl refl says enough
             ∙ ap numbered-so (ap₂ _&&_ (eq-eqb (accessWord (layoutOf (a .image)) (a .image) 0) 0 i) (eq-eqb (accessWord (layoutOf (a .image)) (a .image) 1) 0 j));
         req-rn-open = λ n d says enough.
-            order-done (state.Acknowledged n) n order.ReqRn (rw (eq-eqb n n refl)) refl refl says enough
+            order-done a r q idle (state.Acknowledged q n) n order.ReqRn (rw (eq-eqb n n refl)) refl refl says enough
             ∙ ap numbered-so (nonzero (accessWord (layoutOf (a .image)) (a .image) 0) (accessWord (layoutOf (a .image)) (a .image) 1) d);
         req-rn-cover = elim [
-          | true ↦ λ h c p. secured-done (link h c p) order.ReqRn refl refl (unbroken (link h c p) p) refl
-          | false ↦ λ h c p. open-done (link h c p) order.ReqRn refl refl refl (unbroken (link h c p) p) refl
+          | true ↦ λ h c p. secured-done a r q idle (link q h c p) order.ReqRn tt refl refl (unbroken a r q idle (link q h c p) p) refl
+          | false ↦ λ h c p. open-done a r q idle (link q h c p) order.ReqRn tt refl refl refl (unbroken a r q idle (link q h c p) p) refl
         ];
         read = elim [
           | true ↦ λ h c b p n k e d.
-              subst (λ (z : ℕ). Does answerOf (layoutOf (a .image)) a r h (order.Read (span b p n)) (state.Secured (link h c half.Nothing)) (record { state = state.Secured (link h cover.Nothing half.Nothing); reply = reply.Words (bankOf (layoutOf (a .image)) b .at + p) z h; words = [] })) (words-read b p n k d)
-              (secured-done (link h c half.Nothing) (order.Read (span b p n)) refl refl refl (read-clear (layoutOf (a .image)) (a .image) true b p n e))
+              subst (λ (z : ℕ). Does answerOf (layoutOf (a .image)) a r q h (order.Read (span b p n)) (state.Secured (link q h c half.Nothing)) (record { state = state.Secured (link q h cover.Nothing half.Nothing); reply = reply.Words (bankOf (layoutOf (a .image)) b .at + p) z h; words = [] })) (words-read b p n k d)
+              (secured-done a r q idle (link q h c half.Nothing) (order.Read (span b p n)) tt refl refl refl (read-clear (layoutOf (a .image)) (a .image) true b p n e))
           | false ↦ λ h c b p n k e d.
-              subst (λ (z : ℕ). Does answerOf (layoutOf (a .image)) a r h (order.Read (span b p n)) (state.Open (link h c half.Nothing)) (record { state = state.Open (link h cover.Nothing half.Nothing); reply = reply.Words (bankOf (layoutOf (a .image)) b .at + p) z h; words = [] })) (words-read b p n k d)
-              (open-done (link h c half.Nothing) (order.Read (span b p n)) refl refl refl refl (read-clear (layoutOf (a .image)) (a .image) false b p n e))
+              subst (λ (z : ℕ). Does answerOf (layoutOf (a .image)) a r q h (order.Read (span b p n)) (state.Open (link q h c half.Nothing)) (record { state = state.Open (link q h cover.Nothing half.Nothing); reply = reply.Words (bankOf (layoutOf (a .image)) b .at + p) z h; words = [] })) (words-read b p n k d)
+              (open-done a r q idle (link q h c half.Nothing) (order.Read (span b p n)) tt refl refl refl refl (read-clear (layoutOf (a .image)) (a .image) false b p n e))
         ];
         write = elim [
-          | true ↦ λ h c b p w e. secured-done (link h (cover.Number c) half.Nothing) (order.Write (span b p 1) w) refl refl refl (write-clear (layoutOf (a .image)) (a .image) true b p 1 (bitXor w c) e)
-          | false ↦ λ h c b p w e. open-done (link h (cover.Number c) half.Nothing) (order.Write (span b p 1) w) refl refl refl refl (write-clear (layoutOf (a .image)) (a .image) false b p 1 (bitXor w c) e)
+          | true ↦ λ h c b p w e. secured-done a r q idle (link q h (cover.Number c) half.Nothing) (order.Write (span b p 1) w) tt refl refl refl (write-clear (layoutOf (a .image)) (a .image) true b p 1 (bitXor w c) e)
+          | false ↦ λ h c b p w e. open-done a r q idle (link q h (cover.Number c) half.Nothing) (order.Write (span b p 1) w) tt refl refl refl refl (write-clear (layoutOf (a .image)) (a .image) false b p 1 (bitXor w c) e)
         ];
         kill-first = elim [
-          | true ↦ λ h c w e. secured-done (link h (cover.Number c) half.Nothing) (order.Kill w) refl refl refl (no-code (nonzero _ _ e))
-          | false ↦ λ h c w e. open-done (link h (cover.Number c) half.Nothing) (order.Kill w) refl refl refl refl (no-code (nonzero _ _ e))
+          | true ↦ λ h c w e. secured-done a r q idle (link q h (cover.Number c) half.Nothing) (order.Kill w) tt refl refl refl (no-code (nonzero _ _ e))
+          | false ↦ λ h c w e. open-done a r q idle (link q h (cover.Number c) half.Nothing) (order.Kill w) tt refl refl refl refl (no-code (nonzero _ _ e))
         ];
         kill-second = elim [
-          | true ↦ λ h c w up i j. secured-done (link h (cover.Number c) (half.Kill up)) (order.Kill w) refl refl (right up (bitXor w c) _ _ i j) refl
-          | false ↦ λ h c w up i j. open-done (link h (cover.Number c) (half.Kill up)) (order.Kill w) refl refl refl (right up (bitXor w c) _ _ i j) refl
+          | true ↦ λ h c w up i j. secured-done a r q idle (link q h (cover.Number c) (half.Kill up)) (order.Kill w) tt refl refl (right up (bitXor w c) _ _ i j) refl
+          | false ↦ λ h c w up i j. open-done a r q idle (link q h (cover.Number c) (half.Kill up)) (order.Kill w) tt refl refl refl (right up (bitXor w c) _ _ i j) refl
         ];
-        lock = λ h c mask action e. secured-done (link h c half.Nothing) (order.Lock mask action) refl refl refl (lock-clear (layoutOf (a .image)) (a .image) mask action e);
+        lock = λ h c mask action e. secured-done a r q idle (link q h c half.Nothing) (order.Lock mask action) tt refl refl refl (lock-clear (layoutOf (a .image)) (a .image) mask action e);
         access-first = elim [
-          | true ↦ λ h c w. secured-done (link h (cover.Number c) half.Nothing) (order.Access w) refl refl refl refl
-          | false ↦ λ h c w. open-done (link h (cover.Number c) half.Nothing) (order.Access w) refl refl refl refl refl
+          | true ↦ λ h c w. secured-done a r q idle (link q h (cover.Number c) half.Nothing) (order.Access w) tt refl refl refl refl
+          | false ↦ λ h c w. open-done a r q idle (link q h (cover.Number c) half.Nothing) (order.Access w) tt refl refl refl refl refl
         ];
         access-second = elim [
-          | true ↦ λ h c w up i j. secured-done (link h (cover.Number c) (half.Access up)) (order.Access w) refl refl (right up (bitXor w c) _ _ i j) refl
-          | false ↦ λ h c w up i j. open-done (link h (cover.Number c) (half.Access up)) (order.Access w) refl refl refl (right up (bitXor w c) _ _ i j) refl
+          | true ↦ λ h c w up i j. secured-done a r q idle (link q h (cover.Number c) (half.Access up)) (order.Access w) tt refl refl (right up (bitXor w c) _ _ i j) refl
+          | false ↦ λ h c w up i j. open-done a r q idle (link q h (cover.Number c) (half.Access up)) (order.Access w) tt refl refl refl (right up (bitXor w c) _ _ i j) refl
         ];
         block-write = elim [
-          | true ↦ λ h c b p n at l e. secured-done (link h c half.Nothing) (order.BlockWrite (span b p n) at) refl (some n l) refl (write-clear (layoutOf (a .image)) (a .image) true b p n _ e)
-          | false ↦ λ h c b p n at l e. open-done (link h c half.Nothing) (order.BlockWrite (span b p n) at) refl refl (some n l) refl (write-clear (layoutOf (a .image)) (a .image) false b p n _ e)
+          | true ↦ λ h c b p n at l e. secured-done a r q idle (link q h c half.Nothing) (order.BlockWrite (span b p n) at) tt refl (some n l) refl (write-clear (layoutOf (a .image)) (a .image) true b p n _ e)
+          | false ↦ λ h c b p n at l e. open-done a r q idle (link q h c half.Nothing) (order.BlockWrite (span b p n) at) tt refl refl (some n l) refl (write-clear (layoutOf (a .image)) (a .image) false b p n _ e)
         ];
         block-erase = elim [
-          | true ↦ λ h c b p n l e. secured-done (link h c half.Nothing) (order.BlockErase (span b p n)) refl (some n l) refl (write-clear (layoutOf (a .image)) (a .image) true b p n 0 e)
-          | false ↦ λ h c b p n l e. open-done (link h c half.Nothing) (order.BlockErase (span b p n)) refl refl (some n l) refl (write-clear (layoutOf (a .image)) (a .image) false b p n 0 e)
+          | true ↦ λ h c b p n l e. secured-done a r q idle (link q h c half.Nothing) (order.BlockErase (span b p n)) tt refl (some n l) refl (write-clear (layoutOf (a .image)) (a .image) true b p n 0 e)
+          | false ↦ λ h c b p n l e. open-done a r q idle (link q h c half.Nothing) (order.BlockErase (span b p n)) tt refl refl (some n l) refl (write-clear (layoutOf (a .image)) (a .image) false b p n 0 e)
         ];
-        permalock-read = λ h c p n l e. secured-done (link h c half.Nothing) (order.ReadPermalock 0 (span 3 p n)) refl (some n l) refl (perma-read-clear (layoutOf (a .image)) p n e);
-        permalock = λ h c p n at l e. secured-done (link h c half.Nothing) (order.Permalock 0 (span 3 p n) at) refl (some n l) refl (perma-clear (layoutOf (a .image)) (a .image) p n (a .frame) at e);
-        nak = nak-done;
+        permalock-read = λ h c p n l e. secured-done a r q idle (link q h c half.Nothing) (order.ReadPermalock 0 (span 3 p n)) tt refl (some n l) refl (perma-read-clear (layoutOf (a .image)) p n e);
+        permalock = λ h c p n at l e. secured-done a r q idle (link q h c half.Nothing) (order.Permalock 0 (span 3 p n) at) tt refl (some n l) refl (perma-clear (layoutOf (a .image)) (a .image) p n (a .frame) at e);
+        nak = λ st slot x. nak-done a r idle st q slot x;
+        nak-singled = λ st x. nak-singled a r idle st q x;
       }
 
+-- the commands of inventory
+rounds : (a : Air) (r : Aside) (q : Round) → Idle (layoutOf (a .image)) (a .image) → Rounds answerOf (layoutOf (a .image)) a r q
+rounds a r q idle = ?
+
 -- the port
-module _ (m : List ℕ) (st : State) (r : Register) (idle : Idle (layoutOf m) m) where
+module _ (m : List ℕ) (st : State) (r : Aside) (idle : Idle (layoutOf m) m) where
   holder : Session
-  holder = on st true r
+  holder = awake st true r
 
   past : (room : List ℕ) (bad : Bool) (rest : Rows) → bad ≡ false → None rest → None (refusals holder m room bad ++ rest)
   unfolding holder
@@ -327,23 +361,23 @@ module _ (m : List ℕ) (st : State) (r : Register) (idle : Idle (layoutOf m) m)
 
   -- a read past its refusals, of a tag that is killed or is not
   engine-read : (k : Bool) (at n : ℕ) (room : List ℕ) → isKilled st ≡ k → 1 ≤ n → n ≤ 255 → at + n ≤ layoutOf m .user .words → 2 * n ≤ length room
-      → firstOf (readOf (on st true r) m at n room) ≡ gives 0 (on st true (cond k (withKilled r) r)) (16 * n) 0 m (packed (readBits (layoutOf m) m k at n) room)
+      → firstOf (readOf (awake st true r) m at n room) ≡ gives 0 (awake st true (registered r (cond k (withKilled (r .register)) (r .register)))) (16 * n) 0 m (packed (readBits (layoutOf m) m k at n) room)
   unfolding readOf holder
   engine-read k at n room e a b c d =
-      let row : Rows = (leaves 4 (on st true r) m room, ltb (length room) (2 * n)) ∷ [] in
+      let row : Rows = (leaves 4 (awake st true r) m room, ltb (length room) (2 * n)) ∷ [] in
       none-first (refusals holder m room (badCount (layoutOf m) at n) ++ row) _
       (past room (badCount (layoutOf m) at n) row (count-good at n a b c) (le-ltb (length room) (2 * n) d, tt))
-      ∙ ap (λ (t : Bool). gives 0 (on st true (cond t (withKilled r) r)) (16 * n) 0 m (packed (readBits (layoutOf m) m t at n) room)) e
+      ∙ ap (λ (t : Bool). gives 0 (awake st true (registered r (cond t (withKilled (r .register)) (r .register)))) (16 * n) 0 m (packed (readBits (layoutOf m) m t at n) room)) e
 
   -- a write past its refusals
   module _ (at : ℕ) (d : List ℕ) (n s : ℕ) (size : length d ≡ 2 * n) (a : 1 ≤ n) (b : n ≤ 255) (c : at + n ≤ layoutOf m .user .words) (few : n ≤ pairsIn (layoutOf m)) where
     written : Bool → List Store → Result
     written k ws =
         let ss = changeStores (layoutOf m .work .at) ws in
-        gives 0 (on st true (cond k (withKilled r) (withUnwritten (someUnwritten (layoutOf m) m at n) r))) 0 (length ss) (after m ss) []
+        gives 0 (awake st true (registered r (cond k (withKilled (r .register)) (withUnwritten (someUnwritten (layoutOf m) m at n) (r .register))))) 0 (length ss) (after m ss) []
 
     engine-write : (k : Bool) (ws : List Store) → isKilled st ≡ k → portWords (layoutOf m) m k at d ≡ ws → length (changeStores (layoutOf m .work .at) ws) ≤ s
-        → firstOf (writeOf changeStores (on st true r) m at d s) ≡ written k ws
+        → firstOf (writeOf changeStores (awake st true r) m at d s) ≡ written k ws
     unfolding writeOf holder written
     engine-write k ws e f l =
         let y = layoutOf m in
@@ -355,8 +389,8 @@ module _ (m : List ℕ) (st : State) (r : Register) (idle : Idle (layoutOf m) m)
         let bad : badData y at d ≡ false = rw (eq-eqb (length d % 2) 0 even, half, count-good at n a b c, le-ltb (pairsIn y) n few) in
         none-first (refusals holder m [] (badData y at d) ++ row) _
         (past [] (badData y at d) row bad (le-ltb s (length stores) (subst (λ (x : List Store). length (changeStores (y .work .at) x) ≤ s) (sym words) l), tt))
-        ∙ ap₂ (λ (t : Bool) (x : List Store). gives 0 (on st true (cond t (withKilled r) (withUnwritten (someUnwritten y m at (length d / 2)) r))) 0 (length (changeStores (y .work .at) x)) (after m (changeStores (y .work .at) x)) []) e words
-        ∙ ap (λ (x : ℕ). gives 0 (on st true (cond k (withKilled r) (withUnwritten (someUnwritten y m at x) r))) 0 (length (changeStores (y .work .at) ws)) (after m (changeStores (y .work .at) ws)) []) half
+        ∙ ap₂ (λ (t : Bool) (x : List Store). gives 0 (awake st true (registered r (cond t (withKilled (r .register)) (withUnwritten (someUnwritten y m at (length d / 2)) (r .register))))) 0 (length (changeStores (y .work .at) x)) (after m (changeStores (y .work .at) x)) []) e words
+        ∙ ap (λ (x : ℕ). gives 0 (awake st true (registered r (cond k (withKilled (r .register)) (withUnwritten (someUnwritten y m at x) (r .register))))) 0 (length (changeStores (y .work .at) ws)) (after m (changeStores (y .work .at) ws)) []) half
 
   engine : Transfers answerOf (layoutOf m) m st r
   unfolding written
@@ -369,14 +403,14 @@ module _ (m : List ℕ) (st : State) (r : Register) (idle : Idle (layoutOf m) m)
             let ss = changeStores (y .work .at) words in
             engine-write at d n s size a b c few false words (not-killed st k)
             (let half : length d / 2 ≡ n = omega (arith, size) in ap (writtenWords y m at d) half ∙ sym (marked-words y m marks at d n h)) l
-            ∙ ap (λ (t : Bool). gives 0 (on st true (withUnwritten (not t) r)) 0 (length ss) (after m ss) []) (sym (marked-every y m marks at n h));
+            ∙ ap (λ (t : Bool). gives 0 (awake st true (registered r (withUnwritten (not t) (r .register)))) 0 (length ss) (after m ss) []) (sym (marked-every y m marks at n h));
         read-killed = λ at n room k. engine-read true at n room (ap isKilled k);
         write-killed = λ at d n s k size a b c few. engine-write at d n s size a b c few true [] (ap isKilled k) refl (omega arith);
       }
 
-calls-so : (m : List ℕ) (st : State) (r : Register) → NoImage answerOf m st r
-unfolding admitOf askOf releaseOf registerOf
-calls-so m st r = record { admit = λ n. refl; ask = λ d. rw (not-linked st d); release = refl; register = refl }
+calls-so : (m : List ℕ) (st : State) (r : Aside) → NoImage answerOf m st r
+unfolding askOf releaseOf registerOf
+calls-so m st r = record { ask = λ d. rw (not-linked st d); release = refl; register = refl }
 
 pub demand-2 : Demand2 answerOf
 demand-2 = record { terms = terms-so; start = started-so; radio = radio-at; calls = calls-so; engine = engine-at }
@@ -384,10 +418,11 @@ demand-2 = record { terms = terms-so; start = started-so; radio = radio-at; call
     layout : (y : Layout) (m : List ℕ) → Idle y m → y ≡ layoutOf m
     layout y m i = check-good m y (i .sound) .layout
 
-    radio-at : (y : Layout) (a : Air) (r : Register) → Idle y (a .image) → Radio answerOf y a r
-    radio-at y a r i =
+    radio-at : (y : Layout) (a : Air) (r : Aside) (q : Round) → Idle y (a .image) → Radio answerOf y a r q
+    radio-at y a r q i =
         let e = layout y (a .image) i in
-        subst (λ (z : Layout). Radio answerOf z a r) (sym e) (radio a r (subst (λ (z : Layout). Idle z (a .image)) e i))
+        let idle = subst (λ (z : Layout). Idle z (a .image)) e i in
+        subst (λ (z : Layout). Radio answerOf z a r q) (sym e) (radio a r q idle (rounds a r q idle))
 
-    engine-at : (y : Layout) (m : List ℕ) (st : State) (r : Register) → Idle y m → Transfers answerOf y m st r
+    engine-at : (y : Layout) (m : List ℕ) (st : State) (r : Aside) → Idle y m → Transfers answerOf y m st r
     engine-at y m st r i = let e = layout y m i in subst (λ (z : Layout). Transfers answerOf z m st r) (sym e) (engine m st r (subst (λ (z : Layout). Idle z m) e i))

@@ -18,7 +18,7 @@ use Rattle.bits.proofs.Fields.{field-bit, locked-lt}
 use Rattle.bits.proofs.Stores.{Fits, all-append, all-below, all-imp, all-take, after-fine}
 use Rattle.image.specs.declared.Layout.{Layout}
 use Rattle.image.specs.Layout.{blocksIn, pairsIn}
-use Rattle.image.specs.Content.{lockWord, lengthOf, countIn, mayGo}
+use Rattle.image.specs.Content.{lockWord, lengthOf, pcWord, countIn, mayGo}
 use Rattle.image.specs.Rules.{Header, Good}
 use Rattle.image.proofs.Fits.{Ok, content-fine, fine-content, same-count}
 use Rattle.frames.specs.declared.Span.{Span}
@@ -32,9 +32,12 @@ use Rattle.stores.specs.Cuts.{Change}
 use Rattle.stores.proofs.Sane.{goes-under}
 use Rattle.states.specs.declared.Half.{Half}
 use Rattle.states.specs.declared.Half.the-variants as half
+use Rattle.states.specs.declared.Flags.{Flags}
 use Rattle.states.specs.declared.State.{State}
-use Rattle.states.specs.Commands.{linkOf, isSecured, uncovered}
-use Rattle.plans.specs.Effects.{Scene, halfKill, halfAccess, placeOf, effectOf}
+use Rattle.replies.specs.declared.Reply.the-variants as reply
+use Rattle.states.specs.Commands.{linkOf, isSecured, uncovered, fallen}
+use Rattle.states.specs.Inventory.{acknowledged}
+use Rattle.plans.specs.Effects.{Scene, does, turns, halfKill, halfAccess, placeOf, effectOf}
 use Rattle.tag.specs.Port.{portOpen, portWrites, writtenWords}
 use Rattle.tag.proofs.Plans.{within-bank, perma-small, write-rows, perma-rows, lock-rows}
 use Rattle.demands.proofs.Sound.{PairKept, Sound, bank-sound, user-sound, lock-sound, killed-sound, perma-sound}
@@ -103,14 +106,14 @@ module _ (y : Layout) (m : List ℕ) (g : Good y m) where
       (λ o p. rw (v j p) (pc-fits s pc j (r .2) o p l))))
 
   -- what a command finds
-  at : State → List ℕ → ℕ → Scene
-  at st f fresh = record { layout = y; image = m; state = st; frame = f; fresh = fresh }
+  at : Flags → State → List ℕ → ℕ → Scene
+  at g st f fresh = record { layout = y; image = m; flags = g; state = st; frame = f; fresh = fresh }
 
-  kill-plan : (st : State) (f : List ℕ) (fresh w : ℕ) (a : Half) → Plan y m (halfKill (at st f fresh) w a .words)
+  kill-plan : (g : Flags) (st : State) (f : List ℕ) (fresh w : ℕ) (a : Half) → Plan y m (halfKill (at g st f fresh) w a .words)
   unfolding at
-  kill-plan st f fresh w half.Nothing = no-plan y m
-  kill-plan st f fresh w (half.Access up) = no-plan y m
-  kill-plan st f fresh w (half.Kill up) = one-plan y m (store (y .status .at + 1) 1) hd (omega (arith, hd)) (killed-sound y m hd)
+  kill-plan g st f fresh w half.Nothing = no-plan y m
+  kill-plan g st f fresh w (half.Access up) = no-plan y m
+  kill-plan g st f fresh w (half.Kill up) = one-plan y m (store (y .status .at + 1) 1) hd (omega (arith, hd)) (killed-sound y m hd)
 
   access-plan : (c : Scene) (w : ℕ) (a : Half) → Plan y m (halfAccess c w a .words)
   access-plan c w half.Nothing = no-plan y m
@@ -153,34 +156,43 @@ module _ (y : Layout) (m : List ℕ) (g : Good y m) where
           (perma-sound y m hd (s .pointer + j) (fieldAt f (p + 16 * j) 16) (omega (arith, r .0)) (g .content 0) (λ t h b. clear j t l h b))
 
   -- the words of every order that gets no error code
-  pub order-plan : (st : State) (f : List ℕ) (fresh : ℕ) (o : Order) → Small o
-      → effectOf (record { layout = y; image = m; state = st; frame = f; fresh = fresh }) o .code ≡ code.Nothing
-      → Plan y m (effectOf (record { layout = y; image = m; state = st; frame = f; fresh = fresh }) o .words)
+  pub order-plan : (g : Flags) (st : State) (f : List ℕ) (fresh : ℕ) (o : Order) → Small o
+      → effectOf (record { layout = y; image = m; flags = g; state = st; frame = f; fresh = fresh }) o .code ≡ code.Nothing
+      → Plan y m (effectOf (record { layout = y; image = m; flags = g; state = st; frame = f; fresh = fresh }) o .words)
   unfolding lockedTo at
-  order-plan st f fresh order.Nak h e = no-plan y m
-  order-plan st f fresh order.ReqRn h e = no-plan y m
-  order-plan st f fresh (order.Read s) h e = no-plan y m
-  order-plan st f fresh (order.Write s w) h e =
+  order-plan fl st f fresh (order.QueryRep k) h e = no-plan y m
+  order-plan fl st f fresh (order.Ack n) h e = go (eqb (linkOf st .handle) n)
+    where
+      go : (b : Bool) → Plan y m (cond b (does (at fl st f fresh) (acknowledged st) (reply.Epc (y .epc .at + 1) (lengthOf (pcWord y m) + 1)) []) (turns fl (fallen st)) .words)
+      go true = no-plan y m
+      go false = no-plan y m
+  order-plan fl st f fresh (order.Query sel t q) h e = no-plan y m
+  order-plan fl st f fresh (order.QueryAdjust k u) h e = no-plan y m
+  order-plan fl st f fresh (order.Select c p) h e = no-plan y m
+  order-plan fl st f fresh order.Nak h e = no-plan y m
+  order-plan fl st f fresh order.ReqRn h e = no-plan y m
+  order-plan fl st f fresh (order.Read s) h e = no-plan y m
+  order-plan fl st f fresh (order.Write s w) h e =
       let r = write-rows y m hd m (isSecured st) s _ e in
       let p = within-bank y m hd s (r .0) in
       one-plan y m (store (placeOf y s) (uncovered (linkOf st .cover) w)) hd (let u = bank-under (s .bank) (s .pointer + 1) (omega (arith, p)) in omega arith)
       (bank-sound y m hd (isSecured st) (s .bank) (s .pointer) (uncovered (linkOf st .cover) w) (h .0) (p .0)
       (subst (λ (i : ℕ). mayWrite y m (isSecured st) (s .bank) i ≡ true) (add-zero (s .pointer)) (every-at (λ j. mayWrite y m (isSecured st) (s .bank) (s .pointer + j)) (s .count) (r .2) 0 (omega (arith, h .1))))
       (λ b i. pc-fits s (uncovered (linkOf st .cover) w) 0 (r .3) b (omega arith) (omega (arith, h .1))))
-  order-plan st f fresh (order.Kill w) h e = kill-plan st f fresh w (linkOf st .half)
-  order-plan st f fresh (order.Lock mask action) h e =
+  order-plan fl st f fresh (order.Kill w) h e = kill-plan fl st f fresh w (linkOf st .half)
+  order-plan fl st f fresh (order.Lock mask action) h e =
       let r = lock-rows y m hd m mask action e in
       one-plan y m (store (y .status .at) (lockedTo (lockWord y m) mask action)) hd (omega (arith, hd))
       (lock-sound y m hd (lockedTo (lockWord y m) mask action) (locked-lt (lockWord y m) mask action (g .content 0 .lock) (h .1))
       (λ j l p. pair-kept (lockWord y m) (lockedTo (lockWord y m) mask action) j (every-at (λ k. not (pairBreaks (lockWord y m) (lockedTo (lockWord y m) mask action) k)) 5 r j l) p))
-  order-plan st f fresh (order.Access w) h e = access-plan (at st f fresh) w (linkOf st .half)
-  order-plan st f fresh (order.BlockWrite s p) h e =
+  order-plan fl st f fresh (order.Access w) h e = access-plan (at fl st f fresh) w (linkOf st .half)
+  order-plan fl st f fresh (order.BlockWrite s p) h e =
       let r = write-rows y m hd m (isSecured st) s _ e in
       span-plan (isSecured st) s (fieldAt f (p + 16 * (1 - s .pointer)) 16) (λ j. fieldAt f (p + 16 * j) 16) h (r .0) (r .1, r .2, r .3)
       (λ j l. (let z : j ≡ 1 - s .pointer = omega arith in ap (λ (x : ℕ). fieldAt f (p + 16 * x) 16) z))
-  order-plan st f fresh (order.BlockErase s) h e = let r = write-rows y m hd m (isSecured st) s 0 e in span-plan (isSecured st) s 0 (λ j. 0) h (r .0) (r .1, r .2, r .3) (λ j l. refl)
-  order-plan st f fresh (order.ReadPermalock t s) h e = no-plan y m
-  order-plan st f fresh (order.Permalock t s p) h e = mask-plan s f p (perma-rows y m hd m s f p e)
+  order-plan fl st f fresh (order.BlockErase s) h e = let r = write-rows y m hd m (isSecured st) s 0 e in span-plan (isSecured st) s 0 (λ j. 0) h (r .0) (r .1, r .2, r .3) (λ j l. refl)
+  order-plan fl st f fresh (order.ReadPermalock t s) h e = no-plan y m
+  order-plan fl st f fresh (order.Permalock t s p) h e = mask-plan s f p (perma-rows y m hd m s f p e)
 
   -- those words of an SPI write that may be written
   module _ (at : ℕ) (d : List ℕ) where

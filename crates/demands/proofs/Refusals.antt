@@ -8,7 +8,7 @@ use native.Mathlib.Omega.{arith}
 use lib.Bits.{bitXor}
 use lib.Dec.{eqb, ltb}
 use lib.ListN.{length, drop}
-use borrow.Author.Tests.{eq-eqb, ne-eqb, le-ltb, lt-ltb}
+use borrow.Author.Tests.{ltb-false, eqb-true, eqb-false, eq-eqb, ne-eqb, le-ltb, lt-ltb}
 use Rattle.bits.specs.Bits.{fieldAt}
 use Rattle.bits.specs.First.{first}
 use Rattle.image.specs.declared.Layout.{Layout}
@@ -18,6 +18,8 @@ use Rattle.image.specs.Check.{checkOf, refused, good, imageRows}
 use Rattle.image.specs.Steps.{short, headerWrong, contentBroken}
 use Rattle.image.proofs.Answers.{check-good, check-0}
 use Rattle.frames.specs.declared.Span.{Span}
+use Rattle.frames.specs.declared.Round.{Round}
+use Rattle.frames.specs.declared.Choice.{Choice}
 use Rattle.frames.specs.declared.Command.{Command}
 use Rattle.frames.specs.declared.Order.{Order}
 use Rattle.frames.specs.declared.Order.the-variants as order
@@ -46,27 +48,28 @@ use Rattle.states.specs.declared.Asks.{Asks}
 use Rattle.states.specs.declared.Who.{Who}
 use Rattle.states.specs.declared.Who.the-variants as who
 use Rattle.states.specs.Commands as wide
-use Rattle.states.proofs.Gates.{not-admitted, not-linked, not-secured}
-use Rattle.tag.specs.declared.Register.{Register}
+use Rattle.states.proofs.Gates.{Named}
 use Rattle.states.specs.declared.State.{State}
 use Rattle.states.specs.declared.State.the-variants as state
 use Rattle.tag.specs.declared.Session.{Session}
-use Rattle.tag.specs.Session.{offSession, on}
+use Rattle.tag.specs.Session.{offSession}
 use Rattle.tag.specs.Result.{Result, leaves, lost}
-use Rattle.states.specs.Commands.{isArbitrate, isKilled, asksOf, linkOf, isCovered, uncovered, wrongBy, zeroKill, killWord, breaks, used}
+use Rattle.states.specs.Commands.{badChoice, badUpDn, isKilled, asksOf, linkOf, isCovered, uncovered, wrongBy, zeroKill, killWord, breaks, used, fallen}
 use Rattle.states.specs.Steps.{asks, wrongCommand}
-use Rattle.plans.specs.Effects.{Scene, effectOf}
-use Rattle.tag.specs.Table.{Input, broken, effect, isError, replyOr, replyOf, fits, everything, frameOf, liveOf, isOff, admitOf, refusedBy, commandIn, command, scene}
+use Rattle.plans.specs.Effects.{Scene, Effect, effectOf}
+use Rattle.tag.specs.Table.{Input, broken, effect, isError, replyOr, replyOf, fits, everything, frameOf, liveOf, isOff, refusedBy, commandIn, command, scene}
 use Rattle.tag.specs.Power.{powerUpOf}
 use Rattle.tag.specs.Port.{badCount, badData, refusals, portWords, askOf, releaseOf, registerOf, readOf, writeOf}
-use Rattle.demands.specs.Calls.{Call, asked, powerUp, ask, read, write, answerOf, Idle}
+use Rattle.demands.specs.Calls.{Call, asked, powerUp, ask, read, write, Aside, awake, answerOf, Idle}
+use Rattle.demands.specs.Facts.{Slotted, Singled, InRound, Takeable}
+use Rattle.demands.specs.Facts as facts
 use Rattle.demands.specs.Commands.{Air, answersTo, linked, link, Says}
 use Rattle.demands.proofs.Rows.{Rows, Reaches, rowAt, first-at}
 use Rattle.demands.proofs.Codes.{or-right, and-false}
 use Rattle.demands.proofs.Commands.{needsSecured}
 use Rattle.demands.proofs.Short.{short as too-short}
 use Rattle.demands.proofs.Codes as codes
-use Rattle.demands.specs.Refusals.{stays, drops, errs, Covered, Needs, Other, Brings, OutOfPlace, Dropped, Errors, Locks, NoImageRefused, BadCount, TransferRefused, PortRefused, Refusals}
+use Rattle.demands.specs.Refusals.{stays, drops, errs, Covered, Addressed, Needs, Other, Waits, Brings, OutOfPlace, Dropped, Errors, Locks, NoImageRefused, BadCount, TransferRefused, PortRefused, Refusals}
 use Rattle.tag.specs.Steps.{input}
 
 -- an image that is not good: its number's row, whatever comes after
@@ -115,7 +118,7 @@ module _ (a : Air) where
         ),
       )
 
-  held : (y : Layout) (st : State) (r : Register) → Idle y (a .image) → answersTo answerOf a (on st true r) ≡ stays 6 a (on st true r)
+  held : (y : Layout) (st : State) (r : Aside) → Idle y (a .image) → answersTo answerOf a (awake st true r) ≡ stays 6 a (awake st true r)
   unfolding frameOf
   held y st r idle =
       let c = check-0 (a .image) y (sym (idle .sound)) in
@@ -123,9 +126,9 @@ module _ (a : Air) where
       rw (c .0, c .1, c .2, eq-eqb (countIn (layoutOf (a .image)) (a .image)) 0 z)
 
 -- a free port on a good image with nothing pending: the rows from 7 on
-module _ (y : Layout) (a : Air) (st : State) (r : Register) (idle : Idle y (a .image)) where
+module _ (y : Layout) (a : Air) (st : State) (r : Aside) (idle : Idle y (a .image)) where
   handed : Input
-  handed = input (on st false r) (a .image) (a .frame) (a .bits) (a .fresh) (a .room) (a .power)
+  handed = input (awake st false r) (a .image) (a .frame) (a .bits) (a .fresh) (a .room) (a .power)
 
   -- rows 1, 2, 3, 5 and 6 don't hold
   ready : (k : ℕ) (more : Rows) → Reaches k more
@@ -140,11 +143,11 @@ module _ (y : Layout) (a : Air) (st : State) (r : Register) (idle : Idle y (a .i
       (c .0, (c .1, (c .2, (ap not (eq-eqb (countIn (layoutOf (a .image)) (a .image)) 0 z), (refl, h)))))
 
   -- the rows from 7 on: 7, 8, 9, 12, and 10
-  row-7 : heardOf (a .frame) (a .bits) ≡ heard.refused 7 → answersTo answerOf a (on st false r) ≡ stays 7 a (on st false r)
+  row-7 : heardOf (a .frame) (a .bits) ≡ heard.refused 7 → answersTo answerOf a (awake st false r) ≡ stays 7 a (awake st false r)
   unfolding frameOf handed last
   row-7 h = first-at 5 (frameOf changeStores handed .rows) (last handed) (ready 0 (drop 5 (frameOf changeStores handed .rows)) (ap (refusedBy 7) h))
 
-  row-8 : heardOf (a .frame) (a .bits) ≡ heard.refused 8 → answersTo answerOf a (on st false r) ≡ stays 8 a (on st false r)
+  row-8 : heardOf (a .frame) (a .bits) ≡ heard.refused 8 → answersTo answerOf a (awake st false r) ≡ stays 8 a (awake st false r)
   unfolding frameOf handed last
   row-8 h = first-at 6 (frameOf changeStores handed .rows) (last handed) (ready 1 (drop 5 (frameOf changeStores handed .rows)) (ap (refusedBy 7) h, ap (refusedBy 8) h))
 
@@ -157,14 +160,14 @@ module _ (y : Layout) (a : Air) (st : State) (r : Register) (idle : Idle y (a .i
     unfolding handed
     broken-is = ap (λ (x : Message). breaks (layoutOf (a .image)) (a .image) (linkOf st) (linkOf st .half) (asksOf (commandIn x .order) .part)) h
 
-    row-9 : wrongCommand st c ≡ true → answersTo answerOf a (on st false r) ≡ stays 9 a (on st false r)
+    row-9 : wrongCommand st c ≡ true → answersTo answerOf a (awake st false r) ≡ stays 9 a (awake st false r)
     unfolding frameOf handed last
     row-9 e =
         first-at 7 (frameOf changeStores handed .rows) (last handed)
         (ready 2 (drop 5 (frameOf changeStores handed .rows)) (ap (refusedBy 7) h, (ap (refusedBy 8) h, wrong-is ∙ e)))
 
     row-12 : wrongCommand st c ≡ false → breaks (layoutOf (a .image)) (a .image) (linkOf st) (linkOf st .half) (asksOf (c .order) .part) ≡ true
-        → answersTo answerOf a (on st false r) ≡ drops a r
+        → answersTo answerOf a (awake st false r) ≡ leaves 12 (awake (fallen st) false r) (a .image) (a .room)
     unfolding frameOf handed last
     row-12 w e =
         first-at 8 (frameOf changeStores handed .rows) (last handed)
@@ -174,7 +177,7 @@ module _ (y : Layout) (a : Air) (st : State) (r : Register) (idle : Idle y (a .i
     replied-as z =
         record {
           number = 10;
-          session = on (used st) false r;
+          session = awake (used st) false r;
           reply = replyLength z;
           stores = 0;
           value = 0;
@@ -184,7 +187,7 @@ module _ (y : Layout) (a : Air) (st : State) (r : Register) (idle : Idle y (a .i
 
     row-10 : (e : Fault) → wrongCommand st c ≡ false → breaks (layoutOf (a .image)) (a .image) (linkOf st) (linkOf st .half) (asksOf (c .order) .part) ≡ false
         → effectOf (scene handed) (c .order) .code ≡ code.Error e → 6 ≤ length (a .room)
-        → answersTo answerOf a (on st false r) ≡ replied-as (reply.Error (faultNumber e) (linkOf st .handle))
+        → answersTo answerOf a (awake st false r) ≡ replied-as (reply.Error (faultNumber e) (linkOf st .handle))
     unfolding frameOf handed last replied-as
     row-10 e w b d l =
         let code-is : effect handed .code ≡ code.Error e = ap (λ (x : Message). effectOf (scene handed) (commandIn x .order) .code) h ∙ d in
@@ -241,6 +244,11 @@ perma-lacks true c zero k p f = empty (none k (λ l. f (refl, refl, l)))
 perma-lacks true c (suc rfu) k p f = empty (ap (λ (b : Bool). not b || eqb k 0) (ne-eqb (suc rfu) 0 (omega arith)))
 
 lacks : (o : Order) (q : Bool) (c : Cover) → (Needs q c o → ⊥) → Lacks q c (asksOf o)
+lacks (order.QueryRep k) q c f = absurd (f tt)
+lacks (order.Ack k) q c f = absurd (f tt)
+lacks (order.Query sel t x) q c f = absurd (f tt)
+lacks (order.QueryAdjust k u) q c f = absurd (f tt)
+lacks (order.Select x p) q c f = absurd (f tt)
 lacks order.Nak q c f = absurd (f tt)
 lacks order.ReqRn q c f = absurd (f tt)
 lacks (order.Read s) q c f = absurd (f tt)
@@ -264,102 +272,182 @@ perma-has q c rfu k p f =
 and-nothing : (q : Bool) → not q && false ≡ false
 and-nothing q = and-false (not q)
 
-has : (o : Order) (q : Bool) (c : Cover) → Needs q c o → Has q c (asksOf o)
-has order.Nak q c f = record { secured = and-nothing q; covered = refl; whole = refl }
-has order.ReqRn q c f = record { secured = and-nothing q; covered = refl; whole = refl }
-has (order.Read s) q c f = record { secured = and-nothing q; covered = refl; whole = refl }
-has (order.Write s w) q c f = record { secured = and-nothing q; covered = dressed c f; whole = refl }
-has (order.Kill w) q c f = record { secured = and-nothing q; covered = dressed c f; whole = refl }
-has (order.Lock mask action) q c f = record { secured = ap (λ (b : Bool). not b && true) f; covered = refl; whole = refl }
-has (order.Access w) q c f = record { secured = and-nothing q; covered = dressed c f; whole = refl }
-has (order.BlockWrite s at) q c f = record { secured = and-nothing q; covered = refl; whole = some (s .count) f }
-has (order.BlockErase s) q c f = record { secured = and-nothing q; covered = refl; whole = some (s .count) f }
-has (order.ReadPermalock rfu s) q c f = perma-has q c rfu (s .count) part.Other f
-has (order.Permalock rfu s at) q c f = perma-has q c rfu (s .count) part.Other f
+has : (o : Order) (q : Bool) (c : Cover) → Addressed o → Needs q c o → Has q c (asksOf o)
+has (order.QueryRep k) q c d f = absurd d
+has (order.Ack k) q c d f = absurd d
+has (order.Query sel t x) q c d f = absurd d
+has (order.QueryAdjust k u) q c d f = absurd d
+has (order.Select x p) q c d f = absurd d
+has order.Nak q c d f = absurd d
+has order.ReqRn q c d f = record { secured = and-nothing q; covered = refl; whole = refl }
+has (order.Read s) q c d f = record { secured = and-nothing q; covered = refl; whole = refl }
+has (order.Write s w) q c d f = record { secured = and-nothing q; covered = dressed c f; whole = refl }
+has (order.Kill w) q c d f = record { secured = and-nothing q; covered = dressed c f; whole = refl }
+has (order.Lock mask action) q c d f = record { secured = ap (λ (b : Bool). not b && true) f; covered = refl; whole = refl }
+has (order.Access w) q c d f = record { secured = and-nothing q; covered = dressed c f; whole = refl }
+has (order.BlockWrite s at) q c d f = record { secured = and-nothing q; covered = refl; whole = some (s .count) f }
+has (order.BlockErase s) q c d f = record { secured = and-nothing q; covered = refl; whole = some (s .count) f }
+has (order.ReadPermalock rfu s) q c d f = perma-has q c rfu (s .count) part.Other f
+has (order.Permalock rfu s at) q c d f = perma-has q c rfu (s .count) part.Other f
 
 -- so it is wrong, or not
 or-middle : (x y z : Bool) → y ≡ true → x || y || z ≡ true
 or-middle x y z e = ap (λ (b : Bool). b || z) (or-right x y e)
 
--- every order but NAK is for a tag with its number
-numbered-order : (o : Order) → o ≢ order.Nak → asksOf o .who ≡ who.Everyone → ⊥
-numbered-order order.Nak d e = d refl
-numbered-order order.ReqRn d e = not-admitted e
-numbered-order (order.Read s) d e = not-linked e
-numbered-order (order.Write s w) d e = not-linked e
-numbered-order (order.Kill w) d e = not-linked e
-numbered-order (order.Lock mask action) d e = not-secured e
-numbered-order (order.Access w) d e = not-linked e
-numbered-order (order.BlockWrite s at) d e = not-linked e
-numbered-order (order.BlockErase s) d e = not-linked e
-numbered-order (order.ReadPermalock rfu s) d e = not-secured e
-numbered-order (order.Permalock rfu s at) d e = not-secured e
+-- an order to a tag with its number
+numbered-order : (o : Order) → Addressed o → Named (asksOf o .who)
+numbered-order (order.QueryRep k) d = absurd d
+numbered-order (order.Ack k) d = absurd d
+numbered-order (order.Query sel t x) d = absurd d
+numbered-order (order.QueryAdjust k u) d = absurd d
+numbered-order (order.Select x p) d = absurd d
+numbered-order order.Nak d = absurd d
+numbered-order order.ReqRn d = tt
+numbered-order (order.Read s) d = tt
+numbered-order (order.Write s w) d = tt
+numbered-order (order.Kill w) d = tt
+numbered-order (order.Lock mask action) d = tt
+numbered-order (order.Access w) d = tt
+numbered-order (order.BlockWrite s at) d = tt
+numbered-order (order.BlockErase s) d = tt
+numbered-order (order.ReadPermalock rfu s) d = tt
+numbered-order (order.Permalock rfu s at) d = tt
 
-module _ (h : ℕ) (c : Cover) (p : Half) where
-  hears-so : (w : Who) (q : Bool) (n : ℕ) → (w ≡ who.Everyone → ⊥) → wide.hears w (linked q (link h c p)) n ≡ not (not q && needsSecured w) && eqb h n
-  hears-so who.Everyone q n d = absurd (d refl)
-  hears-so who.Admitted true n d = refl
-  hears-so who.Admitted false n d = refl
+module _ (rd : Round) (h : ℕ) (c : Cover) (p : Half) where
+  hears-so : (w : Who) (q : Bool) (n : ℕ) → Named w → wide.hears w (linked q (link rd h c p)) n ≡ not (not q && needsSecured w) && eqb h n
+  hears-so who.Everyone q n d = absurd d
+  hears-so who.InRound q n d = absurd d
+  hears-so (who.InSession k) q n d = absurd d
+  hears-so who.Replied q n d = absurd d
+  hears-so who.Acknowledged true n d = refl
+  hears-so who.Acknowledged false n d = refl
   hears-so who.Linked true n d = refl
   hears-so who.Linked false n d = refl
   hears-so who.Secured true n d = refl
   hears-so who.Secured false n d = refl
 
   -- by what is heard
-  wrong-by : (q : Bool) (n : ℕ) (a : Asks) (t : Bool) → wide.hears (a .who) (linked q (link h c p)) n ≡ t
-      → wrongBy (linked q (link h c p)) n a ≡ not t || (a .cover && not (isCovered c)) || a .bad
+  wrong-by : (q : Bool) (n : ℕ) (a : Asks) (t : Bool) → wide.hears (a .who) (linked q (link rd h c p)) n ≡ t
+      → wrongBy (linked q (link rd h c p)) n a ≡ not t || (a .cover && not (isCovered c)) || a .bad
   wrong-by true n a t e = ap (λ (b : Bool). not b || (a .cover && not (isCovered c)) || a .bad) e
   wrong-by false n a t e = ap (λ (b : Bool). not b || (a .cover && not (isCovered c)) || a .bad) e
 
-  lacks-wrong : (q : Bool) (n : ℕ) (a : Asks) → (a .who ≡ who.Everyone → ⊥) → Lacks q c a → wrongBy (linked q (link h c p)) n a ≡ true
+  lacks-wrong : (q : Bool) (n : ℕ) (a : Asks) → Named (a .who) → Lacks q c a → wrongBy (linked q (link rd h c p)) n a ≡ true
   lacks-wrong q n a d (insecure e s) =
       wrong-by q n a false (hears-so (a .who) q n d ∙ ap₂ (λ (x z : Bool). not (not x && z) && eqb h n) e s)
   lacks-wrong q n a d (naked e) =
-      wrong-by q n a (wide.hears (a .who) (linked q (link h c p)) n) refl ∙ or-middle (not (wide.hears (a .who) (linked q (link h c p)) n)) (a .cover && not (isCovered c)) (a .bad) e
+      wrong-by q n a (wide.hears (a .who) (linked q (link rd h c p)) n) refl ∙ or-middle (not (wide.hears (a .who) (linked q (link rd h c p)) n)) (a .cover && not (isCovered c)) (a .bad) e
   lacks-wrong q n a d (empty e) =
-      wrong-by q n a (wide.hears (a .who) (linked q (link h c p)) n) refl ∙ or-right (not (wide.hears (a .who) (linked q (link h c p)) n) || (a .cover && not (isCovered c))) (a .bad) e
+      wrong-by q n a (wide.hears (a .who) (linked q (link rd h c p)) n) refl ∙ or-right (not (wide.hears (a .who) (linked q (link rd h c p)) n) || (a .cover && not (isCovered c))) (a .bad) e
 
-  other-wrong : (q : Bool) (n : ℕ) (a : Asks) → (a .who ≡ who.Everyone → ⊥) → n ≢ h → wrongBy (linked q (link h c p)) n a ≡ true
+  other-wrong : (q : Bool) (n : ℕ) (a : Asks) → Named (a .who) → n ≢ h → wrongBy (linked q (link rd h c p)) n a ≡ true
   other-wrong q n a d f =
       wrong-by q n a false
       (hears-so (a .who) q n d ∙ ap (λ (b : Bool). not (not q && needsSecured (a .who)) && b) (ne-eqb h n (λ e. f (sym e))) ∙ and-false (not (not q && needsSecured (a .who))))
 
-  has-right : (q : Bool) (a : Asks) → (a .who ≡ who.Everyone → ⊥) → Has q c a → wrongBy (linked q (link h c p)) h a ≡ false
+  has-right : (q : Bool) (a : Asks) → Named (a .who) → Has q c a → wrongBy (linked q (link rd h c p)) h a ≡ false
   has-right q a d f =
       wrong-by q h a true (hears-so (a .who) q h d ∙ ap₂ (λ (x z : Bool). not x && z) (f .secured) (eq-eqb h h refl))
       ∙ ap₂ (λ (x z : Bool). x || z) (f .covered) (f .whole)
 
--- in Arbitrate, Acknowledged and Killed
-arbitrate-hears : (w : Who) (n : ℕ) → (w ≡ who.Everyone → ⊥) → wide.hears w state.Arbitrate n ≡ false
-arbitrate-hears who.Everyone n d = absurd (d refl)
-arbitrate-hears who.Admitted n d = refl
-arbitrate-hears who.Linked n d = refl
-arbitrate-hears who.Secured n d = refl
+-- in Ready, Arbitrate, Reply, Acknowledged and Killed
+ready-wrong : (n : ℕ) (o : Order) → ((sel t : ℕ) (x : Round) → o ≢ order.Query sel t x) → ((x : Choice) (p : ℕ) → o ≢ order.Select x p) → wrongBy state.Ready n (asksOf o) ≡ true
+ready-wrong n (order.QueryRep k) d e = refl
+ready-wrong n (order.Ack k) d e = refl
+ready-wrong n (order.Query sel t x) d e = absurd (d sel t x refl)
+ready-wrong n (order.QueryAdjust k u) d e = refl
+ready-wrong n (order.Select x p) d e = absurd (e x p refl)
+ready-wrong n order.Nak d e = refl
+ready-wrong n order.ReqRn d e = refl
+ready-wrong n (order.Read s) d e = refl
+ready-wrong n (order.Write s w) d e = refl
+ready-wrong n (order.Kill w) d e = refl
+ready-wrong n (order.Lock mask action) d e = refl
+ready-wrong n (order.Access w) d e = refl
+ready-wrong n (order.BlockWrite s at) d e = refl
+ready-wrong n (order.BlockErase s) d e = refl
+ready-wrong n (order.ReadPermalock rfu s) d e = refl
+ready-wrong n (order.Permalock rfu s at) d e = refl
+
+early-hears : (w : Who) (st : State) (rd : Round) (slot n : ℕ) → Slotted st rd slot → Named w → wide.hears w st n ≡ false
+early-hears who.Everyone st rd slot n x d = absurd d
+early-hears who.InRound st rd slot n x d = absurd d
+early-hears (who.InSession k) st rd slot n x d = absurd d
+early-hears who.Replied st rd slot n x d = absurd d
+early-hears who.Acknowledged st rd slot n (facts.arbitrate q k) d = refl
+early-hears who.Acknowledged st rd slot n (facts.reply q k) d = refl
+early-hears who.Linked st rd slot n (facts.arbitrate q k) d = refl
+early-hears who.Linked st rd slot n (facts.reply q k) d = refl
+early-hears who.Secured st rd slot n (facts.arbitrate q k) d = refl
+early-hears who.Secured st rd slot n (facts.reply q k) d = refl
 
 killed-hears : (w : Who) (n : ℕ) → wide.hears w state.Killed n ≡ false
 killed-hears who.Everyone n = refl
-killed-hears who.Admitted n = refl
+killed-hears who.InRound n = refl
+killed-hears (who.InSession k) n = refl
+killed-hears who.Replied n = refl
+killed-hears who.Acknowledged n = refl
 killed-hears who.Linked n = refl
 killed-hears who.Secured n = refl
 
-abbrev takesAdmission : Who → Bool
-takesAdmission who.Everyone = false
-takesAdmission who.Admitted = true
-takesAdmission who.Linked = false
-takesAdmission who.Secured = false
+abbrev takesNumber : Who → Bool
+takesNumber who.Everyone = false
+takesNumber who.InRound = false
+takesNumber (who.InSession k) = false
+takesNumber who.Replied = false
+takesNumber who.Acknowledged = true
+takesNumber who.Linked = false
+takesNumber who.Secured = false
 
-admission-hears : (w : Who) (m n : ℕ) → (w ≡ who.Everyone → ⊥) → wide.hears w (state.Acknowledged m) n ≡ takesAdmission w && eqb m n
-admission-hears who.Everyone m n d = absurd (d refl)
-admission-hears who.Admitted m n d = refl
-admission-hears who.Linked m n d = refl
-admission-hears who.Secured m n d = refl
+number-hears : (w : Who) (rd : Round) (m n : ℕ) → Named w → wide.hears w (state.Acknowledged rd m) n ≡ takesNumber w && eqb m n
+number-hears who.Everyone rd m n d = absurd d
+number-hears who.InRound rd m n d = absurd d
+number-hears (who.InSession k) rd m n d = absurd d
+number-hears who.Replied rd m n d = absurd d
+number-hears who.Acknowledged rd m n d = refl
+number-hears who.Linked rd m n d = refl
+number-hears who.Secured rd m n d = refl
+
+-- a round's session
+slotted-session : (st : State) (rd : Round) (slot k n : ℕ) → Slotted st rd slot → wide.hears (who.InSession k) st n ≡ eqb (rd .session) k
+slotted-session st rd slot k n (facts.arbitrate q s) = refl
+slotted-session st rd slot k n (facts.reply q s) = refl
+
+singled-session : (st : State) (rd : Round) (k n : ℕ) → Singled st rd → wide.hears (who.InSession k) st n ≡ eqb (rd .session) k
+singled-session st rd k n (facts.acknowledged q s) = refl
+singled-session st rd k n (facts.opened l) = refl
+singled-session st rd k n (facts.secured l) = refl
+
+session-hears : (st : State) (rd : Round) (k n : ℕ) → InRound st rd → k ≢ rd .session → wide.hears (who.InSession k) st n ≡ false
+session-hears st rd k n x d = is x ∙ ne-eqb (rd .session) k (λ e. d (sym e))
+  where
+    is : InRound st rd → wide.hears (who.InSession k) st n ≡ eqb (rd .session) k
+    is (inl y) = slotted-session st rd (y .0) k n (y .1)
+    is (inr y) = singled-session st rd k n y
+
+no-up-down : (u : ℕ) → u ≢ 6 → u ≢ 0 → u ≢ 3 → badUpDn u ≡ true
+no-up-down u a b c = rw (ne-eqb u 6 a, ne-eqb u 0 b, ne-eqb u 3 c)
+
+untaken : (x : Choice) → (Takeable x → ⊥) → badChoice x ≡ true
+untaken x d = go (ltb 4 (x .target)) (eqb (x .bits .bank) 0) (eqb (x .truncate) 0) refl refl refl
+  where
+    go : (s t u : Bool) → ltb 4 (x .target) ≡ s → eqb (x .bits .bank) 0 ≡ t → eqb (x .truncate) 0 ≡ u → s || t || not u ≡ true
+    go true t u a b c = refl
+    go false true u a b c = refl
+    go false false false a b c = refl
+    go false false true a b c = absurd (d (ltb-false 4 (x .target) a, eqb-false (x .bits .bank) 0 b, eqb-true (x .truncate) 0 c))
 
 -- the frame's refusals, line by line; the layout is the image's
-module _ (a : Air) (r : Register) (idle : Idle (layoutOf (a .image)) (a .image)) where
-  says-9 : (st : State) (n : ℕ) (o : Order) → Says a n o → wrongBy st n (asksOf o) ≡ true → answersTo answerOf a (on st false r) ≡ stays 9 a (on st false r)
+module _ (a : Air) (r : Aside) (rd : Round) (idle : Idle (layoutOf (a .image)) (a .image)) where
+  says-9 : (st : State) (n : ℕ) (o : Order) → Says a n o → wrongBy st n (asksOf o) ≡ true → answersTo answerOf a (awake st false r) ≡ stays 9 a (awake st false r)
   says-9 st n o s e = row-9 (layoutOf (a .image)) a st r idle (record { number = n; order = o }) s e
 
-  early : (o : Order) → o ≢ order.ReqRn → takesAdmission (asksOf o .who) ≡ false
+  early : (o : Order) → o ≢ order.ReqRn → takesNumber (asksOf o .who) ≡ false
+  early (order.QueryRep k) d = refl
+  early (order.Ack k) d = refl
+  early (order.Query sel t x) d = refl
+  early (order.QueryAdjust k u) d = refl
+  early (order.Select x p) d = refl
   early order.Nak d = refl
   early order.ReqRn d = absurd (d refl)
   early (order.Read s) d = refl
@@ -375,49 +463,71 @@ module _ (a : Air) (r : Register) (idle : Idle (layoutOf (a .image)) (a .image))
   unheard : (st : State) (n : ℕ) (o : Order) → wide.hears (asksOf o .who) st n ≡ false → wrongBy st n (asksOf o) ≡ true
   unheard st n o e = ap (λ (b : Bool). not b || (asksOf o .cover && not (isCovered (linkOf st .cover))) || asksOf o .bad) e
 
-  not-heard : (m n : ℕ) (o : Order) → (n ≢ m) ⊎ (o ≢ order.ReqRn) → takesAdmission (asksOf o .who) && eqb m n ≡ false
-  not-heard m n o (inl d) = ap (λ (b : Bool). takesAdmission (asksOf o .who) && b) (ne-eqb m n (λ e. d (sym e))) ∙ and-false (takesAdmission (asksOf o .who))
+  not-heard : (m n : ℕ) (o : Order) → (n ≢ m) ⊎ (o ≢ order.ReqRn) → takesNumber (asksOf o .who) && eqb m n ≡ false
+  not-heard m n o (inl d) = ap (λ (b : Bool). takesNumber (asksOf o .who) && b) (ne-eqb m n (λ e. d (sym e))) ∙ and-false (takesNumber (asksOf o .who))
   not-heard m n o (inr d) = ap (λ (b : Bool). b && eqb m n) (early o d)
 
-  wrongs : OutOfPlace answerOf a r
+  bad-wrong : (st : State) (n : ℕ) (o : Order) → asksOf o .bad ≡ true → wrongBy st n (asksOf o) ≡ true
+  bad-wrong st n o e = or-right (not (wide.hears (asksOf o .who) st n) || (asksOf o .cover && not (isCovered (linkOf st .cover)))) (asksOf o .bad) e
+
+  wrongs : OutOfPlace answerOf a r rd
   wrongs =
       record {
-        arbitrate = λ n o s k. says-9 state.Arbitrate n o s (unheard state.Arbitrate n o (arbitrate-hears (asksOf o .who) n (numbered-order o k)));
+        ready = λ n o s d e. says-9 state.Ready n o s (ready-wrong n o d e);
+        early = λ st slot n o s x k. says-9 st n o s (unheard st n o (early-hears (asksOf o .who) st rd slot n x (numbered-order o k)));
+        ack-early = λ slot n k s. says-9 (state.Arbitrate rd slot) n (order.Ack k) s refl;
+        rep-session = λ st n k s x d. says-9 st n (order.QueryRep k) s (unheard st n (order.QueryRep k) (session-hears st rd k n x d));
+        adjust-session = λ st n k u s x d. says-9 st n (order.QueryAdjust k u) s (unheard st n (order.QueryAdjust k u) (session-hears st rd k n x d));
+        adjust-nothing = λ st n k u s x y z. says-9 st n (order.QueryAdjust k u) s (bad-wrong st n (order.QueryAdjust k u) (no-up-down u x y z));
+        select-untaken = λ st n x at s d. says-9 st n (order.Select x at) s (bad-wrong st n (order.Select x at) (untaken x d));
         killed = λ n o s. says-9 state.Killed n o s (unheard state.Killed n o (killed-hears (asksOf o .who) n));
-        admission = λ m n o s k d.
-            says-9 (state.Acknowledged m) n o s
-            (unheard (state.Acknowledged m) n o (admission-hears (asksOf o .who) m n (numbered-order o k) ∙ not-heard m n o d));
-        handle = λ q h c p n o s k d. says-9 (linked q (link h c p)) n o s (unfit q h c p n o (numbered-order o k) d);
+        acknowledged = λ m n o s k d.
+            says-9 (state.Acknowledged rd m) n o s
+            (unheard (state.Acknowledged rd m) n o (number-hears (asksOf o .who) rd m n (numbered-order o k) ∙ not-heard m n o d));
+        handle = λ q h c p n o s k d. says-9 (linked q (link rd h c p)) n o s (unfit q h c p n o (numbered-order o k) d);
       }
     where
-      unfit : (q : Bool) (h : ℕ) (c : Cover) (p : Half) (n : ℕ) (o : Order) → (asksOf o .who ≡ who.Everyone → ⊥) → (n ≢ h) ⊎ (Needs q c o → ⊥)
-          → wrongBy (linked q (link h c p)) n (asksOf o) ≡ true
-      unfit q h c p n o k (inl d) = other-wrong h c p q n (asksOf o) k d
-      unfit q h c p n o k (inr f) = lacks-wrong h c p q n (asksOf o) k (lacks o q c f)
+      unfit : (q : Bool) (h : ℕ) (c : Cover) (p : Half) (n : ℕ) (o : Order) → Named (asksOf o .who) → (n ≢ h) ⊎ (Needs q c o → ⊥)
+          → wrongBy (linked q (link rd h c p)) n (asksOf o) ≡ true
+      unfit q h c p n o k (inl d) = other-wrong rd h c p q n (asksOf o) k d
+      unfit q h c p n o k (inr f) = lacks-wrong rd h c p q n (asksOf o) k (lacks o q c f)
 
   -- 12
-  says-12 : (q : Bool) (h : ℕ) (c : Cover) (p : Half) (o : Order) → Says a h o → Needs q c o → o ≢ order.Nak
-      → breaks (layoutOf (a .image)) (a .image) (link h c p) p (asksOf o .part) ≡ true
-      → answersTo answerOf a (on (linked q (link h c p)) false r) ≡ drops a r
-  says-12 q h c p o s f k e =
-      row-12 (layoutOf (a .image)) a (linked q (link h c p)) r idle (record { number = h; order = o }) s
-      (has-right h c p q (asksOf o) (numbered-order o k) (has o q c f)) (go q)
-    where
-      go : (q : Bool) → breaks (layoutOf (a .image)) (a .image) (linkOf (linked q (link h c p))) (linkOf (linked q (link h c p)) .half) (asksOf o .part) ≡ true
-      go true = e
-      go false = e
+  says-12 : (q : Bool) (h : ℕ) (c : Cover) (p : Half) (o : Order) → Says a h o → Needs q c o → Addressed o
+      → breaks (layoutOf (a .image)) (a .image) (link rd h c p) p (asksOf o .part) ≡ true
+      → answersTo answerOf a (awake (linked q (link rd h c p)) false r) ≡ drops a r rd
+  says-12 true h c p o s f k e =
+      row-12 (layoutOf (a .image)) a (state.Secured (link rd h c p)) r idle (record { number = h; order = o }) s
+      (has-right rd h c p true (asksOf o) (numbered-order o k) (has o true c k f)) e
+  says-12 false h c p o s f k e =
+      row-12 (layoutOf (a .image)) a (state.Open (link rd h c p)) r idle (record { number = h; order = o }) s
+      (has-right rd h c p false (asksOf o) (numbered-order o k) (has o false c k f)) e
+
+  addressed : (h : ℕ) (c : Cover) (p : Half) → Waits p → breaks (layoutOf (a .image)) (a .image) (link rd h c p) p (part.To h) ≡ true
+  addressed h c half.Nothing w = absurd w
+  addressed h c (half.Access up) w = eq-eqb h h refl
+  addressed h c (half.Kill up) w = eq-eqb h h refl
+
+  ack-12 : (q : Bool) (h n : ℕ) (c : Cover) (p : Half) → Says a n (order.Ack h) → Waits p → answersTo answerOf a (awake (linked q (link rd h c p)) false r) ≡ drops a r rd
+  ack-12 true h n c p s w = row-12 (layoutOf (a .image)) a (state.Secured (link rd h c p)) r idle (record { number = n; order = order.Ack h }) s refl (addressed h c p w)
+  ack-12 false h n c p s w = row-12 (layoutOf (a .image)) a (state.Open (link rd h c p)) r idle (record { number = n; order = order.Ack h }) s refl (addressed h c p w)
 
   -- two tests of which one fails
   not-both : (x z : ℕ) (u v : ℕ) → (x ≢ u) ⊎ (z ≢ v) → not (eqb x u && eqb z v) ≡ true
   not-both x z u v (inl d) = ap (λ (b : Bool). not (b && eqb z v)) (ne-eqb x u d)
   not-both x z u v (inr d) = ap (λ (b : Bool). not (eqb x u && b)) (ne-eqb z v d) ∙ ap not (and-false (eqb x u))
 
-  comes-between : (p : Half) (o : Order) (h : ℕ) (c : Cover) → Other p o → breaks (layoutOf (a .image)) (a .image) (link h c p) p (asksOf o .part) ≡ true
+  comes-between : (p : Half) (o : Order) (h : ℕ) (c : Cover) → Other p o → breaks (layoutOf (a .image)) (a .image) (link rd h c p) p (asksOf o .part) ≡ true
   comes-between half.Nothing o h c f = absurd f
   comes-between (half.Access up) o h c f = go o f
     where
-      go : (o : Order) → Other (half.Access up) o → breaks (layoutOf (a .image)) (a .image) (link h c (half.Access up)) (half.Access up) (asksOf o .part) ≡ true
-      go order.Nak f = absurd (f .0 refl)
+      go : (o : Order) → Other (half.Access up) o → breaks (layoutOf (a .image)) (a .image) (link rd h c (half.Access up)) (half.Access up) (asksOf o .part) ≡ true
+      go (order.QueryRep k) f = absurd (f .0)
+      go (order.Ack k) f = absurd (f .0)
+      go (order.Query sel t x) f = absurd (f .0)
+      go (order.QueryAdjust k u) f = absurd (f .0)
+      go (order.Select x p) f = absurd (f .0)
+      go order.Nak f = absurd (f .0)
       go order.ReqRn f = absurd (f .1 refl)
       go (order.Read s) f = refl
       go (order.Write s w) f = refl
@@ -430,8 +540,13 @@ module _ (a : Air) (r : Register) (idle : Idle (layoutOf (a .image)) (a .image))
       go (order.Permalock rfu s at) f = refl
   comes-between (half.Kill up) o h c f = go o f
     where
-      go : (o : Order) → Other (half.Kill up) o → breaks (layoutOf (a .image)) (a .image) (link h c (half.Kill up)) (half.Kill up) (asksOf o .part) ≡ true
-      go order.Nak f = absurd (f .0 refl)
+      go : (o : Order) → Other (half.Kill up) o → breaks (layoutOf (a .image)) (a .image) (link rd h c (half.Kill up)) (half.Kill up) (asksOf o .part) ≡ true
+      go (order.QueryRep k) f = absurd (f .0)
+      go (order.Ack k) f = absurd (f .0)
+      go (order.Query sel t x) f = absurd (f .0)
+      go (order.QueryAdjust k u) f = absurd (f .0)
+      go (order.Select x p) f = absurd (f .0)
+      go order.Nak f = absurd (f .0)
       go order.ReqRn f = absurd (f .1 refl)
       go (order.Read s) f = refl
       go (order.Write s w) f = refl
@@ -443,27 +558,27 @@ module _ (a : Air) (r : Register) (idle : Idle (layoutOf (a .image)) (a .image))
       go (order.ReadPermalock rfu s) f = refl
       go (order.Permalock rfu s at) f = refl
 
-  access-no : {w : ℕ} → order.Access w ≡ order.Nak → ⊥
-  access-no e = let z : _≡_ {A = ℕ} 0 1 = cc in omega arith
+  other-to : (p : Half) (o : Order) → Other p o → Addressed o
+  other-to half.Nothing o f = absurd f
+  other-to (half.Access up) o f = f .0
+  other-to (half.Kill up) o f = f .0
 
-  kill-no : {w : ℕ} → order.Kill w ≡ order.Nak → ⊥
-  kill-no e = let z : _≡_ {A = ℕ} 0 1 = cc in omega arith
-
-  other-no : (p : Half) (o : Order) → Other p o → o ≢ order.Nak
-  other-no half.Nothing o f = absurd f
-  other-no (half.Access up) o f = f .0
-  other-no (half.Kill up) o f = f .0
-
-  drop-lines : Dropped answerOf (layoutOf (a .image)) a r
+  drop-lines : Dropped answerOf (layoutOf (a .image)) a r rd
   drop-lines =
       record {
-        access = λ q h c up w s d. says-12 q h (cover.Number c) (half.Access up) (order.Access w) s tt (λ e. access-no e) (not-both up (bitXor w c) _ _ d);
-        kill = λ q h c up w s d. says-12 q h (cover.Number c) (half.Kill up) (order.Kill w) s tt (λ e. kill-no e) (not-both up (bitXor w c) _ _ d);
-        between = λ q h c p o s f d. says-12 q h c p o s f (other-no p o d) (comes-between p o h c d);
+        access = λ q h c up w s d. says-12 q h (cover.Number c) (half.Access up) (order.Access w) s tt tt (not-both up (bitXor w c) _ _ d);
+        kill = λ q h c up w s d. says-12 q h (cover.Number c) (half.Kill up) (order.Kill w) s tt tt (not-both up (bitXor w c) _ _ d);
+        between = λ q h c p o s f d. says-12 q h c p o s f (other-to p o d) (comes-between p o h c d);
+        ack = ack-12;
       }
 
   -- the code of an order where no half waits
   codeBy : Bool → Cover → Order → Code
+  codeBy q c (order.QueryRep k) = code.Nothing
+  codeBy q c (order.Ack k) = code.Nothing
+  codeBy q c (order.Query sel t x) = code.Nothing
+  codeBy q c (order.QueryAdjust k u) = code.Nothing
+  codeBy q c (order.Select x p) = code.Nothing
   codeBy q c order.Nak = code.Nothing
   codeBy q c order.ReqRn = code.Nothing
   codeBy q c (order.Read s) = readCode (layoutOf (a .image)) (a .image) q s
@@ -477,11 +592,20 @@ module _ (a : Air) (r : Register) (idle : Idle (layoutOf (a .image)) (a .image))
   codeBy q c (order.Permalock rfu s at) = permaCode (layoutOf (a .image)) (a .image) s (a .frame) at
 
   scene-in : State → Scene
-  scene-in st = record { layout = layoutOf (a .image); image = a .image; state = st; frame = a .frame; fresh = a .fresh }
+  scene-in st = record { layout = layoutOf (a .image); image = a .image; flags = r .flags; state = st; frame = a .frame; fresh = a .fresh }
+
+  ack-code : (b : Bool) (x z : Effect) → x .code ≡ code.Nothing → z .code ≡ code.Nothing → cond b x z .code ≡ code.Nothing
+  ack-code true x z e f = e
+  ack-code false x z e f = f
 
   same-code : (o : Order) (k : Link) → k .half ≡ half.Nothing
       → (effectOf (scene-in (state.Secured k)) o .code ≡ codeBy true (k .cover) o) × (effectOf (scene-in (state.Open k)) o .code ≡ codeBy false (k .cover) o)
   unfolding scene-in codeBy
+  same-code (order.QueryRep n) k e = (refl, refl)
+  same-code (order.Ack n) k e = (ack-code (eqb (k .handle) n) _ _ refl refl, ack-code (eqb (k .handle) n) _ _ refl refl)
+  same-code (order.Query sel t x) k e = (refl, refl)
+  same-code (order.QueryAdjust n u) k e = (refl, refl)
+  same-code (order.Select x p) k e = (refl, refl)
   same-code order.Nak k e = (refl, refl)
   same-code order.ReqRn k e = (refl, refl)
   same-code (order.Read s) k e = (refl, refl)
@@ -494,29 +618,49 @@ module _ (a : Air) (r : Register) (idle : Idle (layoutOf (a .image)) (a .image))
   same-code (order.ReadPermalock rfu s) k e = (refl, refl)
   same-code (order.Permalock rfu s at) k e = (refl, refl)
 
+  never : (e : Fault) → code.Nothing ≡ code.Error e → ⊥
+  never e d = let z : _≡_ {A = ℕ} 0 1 = cc in omega arith
+
   -- 10, where no half waits
-  coded-no : (q : Bool) (c : Cover) (o : Order) (e : Fault) → codeBy q c o ≡ code.Error e → o ≢ order.Nak
+  coded-to : (q : Bool) (c : Cover) (o : Order) (e : Fault) → codeBy q c o ≡ code.Error e → Addressed o
   unfolding codeBy
-  coded-no q c o e d k = never (sym (ap (codeBy q c) k) ∙ d)
-    where
-      never : code.Nothing ≡ code.Error e → ⊥
-      never d = let z : _≡_ {A = ℕ} 0 1 = cc in omega arith
+  coded-to q c (order.QueryRep k) e d = absurd (never e d)
+  coded-to q c (order.Ack k) e d = absurd (never e d)
+  coded-to q c (order.Query sel t x) e d = absurd (never e d)
+  coded-to q c (order.QueryAdjust k u) e d = absurd (never e d)
+  coded-to q c (order.Select x p) e d = absurd (never e d)
+  coded-to q c order.Nak e d = absurd (never e d)
+  coded-to q c order.ReqRn e d = tt
+  coded-to q c (order.Read s) e d = tt
+  coded-to q c (order.Write s w) e d = tt
+  coded-to q c (order.Kill w) e d = tt
+  coded-to q c (order.Lock mask action) e d = tt
+  coded-to q c (order.Access w) e d = tt
+  coded-to q c (order.BlockWrite s at) e d = tt
+  coded-to q c (order.BlockErase s) e d = tt
+  coded-to q c (order.ReadPermalock rfu s) e d = tt
+  coded-to q c (order.Permalock rfu s at) e d = tt
 
   says-10 : (q : Bool) (h : ℕ) (c : Cover) (o : Order) (e : Fault) → Says a h o → Needs q c o → 6 ≤ length (a .room) → codeBy q c o ≡ code.Error e
-      → answersTo answerOf a (on (linked q (link h c half.Nothing)) false r) ≡ errs a r q h (faultNumber e)
+      → answersTo answerOf a (awake (linked q (link rd h c half.Nothing)) false r) ≡ errs a r rd q h (faultNumber e)
   unfolding handed replied-as scene-in
   says-10 q h c o e s f l d = go q f d
     where
-      go : (q : Bool) → Needs q c o → codeBy q c o ≡ code.Error e → answersTo answerOf a (on (linked q (link h c half.Nothing)) false r) ≡ errs a r q h (faultNumber e)
+      go : (q : Bool) → Needs q c o → codeBy q c o ≡ code.Error e → answersTo answerOf a (awake (linked q (link rd h c half.Nothing)) false r) ≡ errs a r rd q h (faultNumber e)
       go true f d =
-          row-10 (layoutOf (a .image)) a (state.Secured (link h c half.Nothing)) r idle (record { number = h; order = o }) s e
-          (has-right h c half.Nothing true (asksOf o) (numbered-order o (coded-no true c o e d)) (has o true c f)) refl (same-code o (link h c half.Nothing) refl .0 ∙ d) l
+          row-10 (layoutOf (a .image)) a (state.Secured (link rd h c half.Nothing)) r idle (record { number = h; order = o }) s e
+          (has-right rd h c half.Nothing true (asksOf o) (numbered-order o (coded-to true c o e d)) (has o true c (coded-to true c o e d) f)) refl (same-code o (link rd h c half.Nothing) refl .0 ∙ d) l
       go false f d =
-          row-10 (layoutOf (a .image)) a (state.Open (link h c half.Nothing)) r idle (record { number = h; order = o }) s e
-          (has-right h c half.Nothing false (asksOf o) (numbered-order o (coded-no false c o e d)) (has o false c f)) refl (same-code o (link h c half.Nothing) refl .1 ∙ d) l
+          row-10 (layoutOf (a .image)) a (state.Open (link rd h c half.Nothing)) r idle (record { number = h; order = o }) s e
+          (has-right rd h c half.Nothing false (asksOf o) (numbered-order o (coded-to false c o e d)) (has o false c (coded-to false c o e d) f)) refl (same-code o (link rd h c half.Nothing) refl .1 ∙ d) l
 
   -- what a writing command brings is what its code is asked of
   brings-needs : (o : Order) (q : Bool) (c : Cover) (b p n pc : ℕ) → Brings a c o b p n pc → Needs q c o
+  brings-needs (order.QueryRep k) q c b p n pc f = tt
+  brings-needs (order.Ack k) q c b p n pc f = tt
+  brings-needs (order.Query sel t x) q c b p n pc f = tt
+  brings-needs (order.QueryAdjust k u) q c b p n pc f = tt
+  brings-needs (order.Select x z) q c b p n pc f = tt
   brings-needs order.Nak q c b p n pc f = tt
   brings-needs order.ReqRn q c b p n pc f = tt
   brings-needs (order.Read s) q c b p n pc f = tt
@@ -532,6 +676,11 @@ module _ (a : Air) (r : Register) (idle : Idle (layoutOf (a .image)) (a .image))
 
   -- a bank's number has two bits
   bank-small : (o : Order) (c : Cover) (b p n pc h : ℕ) → Says a h o → Brings a c o b p n pc → b < 4
+  bank-small (order.QueryRep k) c b p n pc h s f = absurd f
+  bank-small (order.Ack k) c b p n pc h s f = absurd f
+  bank-small (order.Query sel t x) c b p n pc h s f = absurd f
+  bank-small (order.QueryAdjust k u) c b p n pc h s f = absurd f
+  bank-small (order.Select x z) c b p n pc h s f = absurd f
   bank-small order.Nak c b p n pc h s f = absurd f
   bank-small order.ReqRn c b p n pc h s f = absurd f
   bank-small (order.Read x) c b p n pc h s f = absurd f
@@ -551,6 +700,11 @@ module _ (a : Air) (r : Register) (idle : Idle (layoutOf (a .image)) (a .image))
   brings-code : (o : Order) (q : Bool) (c : Cover) (b p n pc : ℕ) → Brings a c o b p n pc
       → codeBy q c o ≡ writeCode (layoutOf (a .image)) (a .image) q (span b p n) pc
   unfolding codeBy
+  brings-code (order.QueryRep k) q c b p n pc f = absurd f
+  brings-code (order.Ack k) q c b p n pc f = absurd f
+  brings-code (order.Query sel t x) q c b p n pc f = absurd f
+  brings-code (order.QueryAdjust k u) q c b p n pc f = absurd f
+  brings-code (order.Select x z) q c b p n pc f = absurd f
   brings-code order.Nak q c b p n pc f = absurd f
   brings-code order.ReqRn q c b p n pc f = absurd f
   brings-code (order.Read s) q c b p n pc f = absurd f
@@ -565,7 +719,7 @@ module _ (a : Air) (r : Register) (idle : Idle (layoutOf (a .image)) (a .image))
   brings-code (order.Permalock rfu s at) q c b p n pc f = absurd f
 
   module _ (l : 6 ≤ length (a .room)) where
-    error-lines : (q : Bool) (h : ℕ) (c : Cover) → Errors answerOf (layoutOf (a .image)) a r q h c
+    error-lines : (q : Bool) (h : ℕ) (c : Cover) → Errors answerOf (layoutOf (a .image)) a r rd q h c
     unfolding codeBy
     error-lines q h c =
         record {
@@ -584,7 +738,7 @@ module _ (a : Air) (r : Register) (idle : Idle (layoutOf (a .image)) (a .image))
               (ap₂ (λ (t x : Bool). cond (t && x) (code.Error fault.Other) code.Nothing) (eq-eqb (killWord (layoutOf (a .image)) (a .image) 0) 0 u) (eq-eqb (killWord (layoutOf (a .image)) (a .image) 1) 0 v));
         }
 
-    lock-lines : (h : ℕ) (c : Cover) → Locks answerOf (layoutOf (a .image)) a r h c
+    lock-lines : (h : ℕ) (c : Cover) → Locks answerOf (layoutOf (a .image)) a r rd h c
     unfolding codeBy
     lock-lines h c =
         record {
@@ -601,20 +755,10 @@ module _ (a : Air) (r : Register) (idle : Idle (layoutOf (a .image)) (a .image))
         }
 
 -- calls without an image
-not-arbitrate : (st : State) → st ≢ state.Arbitrate → not (isArbitrate st) ≡ true
-not-arbitrate state.Arbitrate d = absurd (d refl)
-not-arbitrate (state.Acknowledged n) d = refl
-not-arbitrate (state.Open k) d = refl
-not-arbitrate (state.Secured k) d = refl
-not-arbitrate state.Killed d = refl
-
 alone-lines : (m : List ℕ) → NoImageRefused answerOf m
-unfolding admitOf askOf releaseOf registerOf
+unfolding askOf releaseOf registerOf
 alone-lines m =
     record {
-      admit-off = λ n. refl;
-      admit-held = λ st r n. refl;
-      admit-state = λ st r n d. rw (not-arbitrate st d);
       ask-off = refl;
       ask-held = λ st r. refl;
       ask-linked = linked-so;
@@ -624,10 +768,10 @@ alone-lines m =
       register-free = λ st r. refl;
     }
   where
-    linked-so : (q : Bool) (h : ℕ) (c : Cover) (p : Half) (r : Register)
-        → asked answerOf (on (linked q (link h c p)) false r) m ask ≡ leaves 6 (on (linked q (link h c p)) false r) [] []
-    linked-so true h c p r = refl
-    linked-so false h c p r = refl
+    linked-so : (q : Bool) (rd : Round) (h : ℕ) (c : Cover) (p : Half) (r : Aside)
+        → asked answerOf (awake (linked q (link rd h c p)) false r) m ask ≡ leaves 6 (awake (linked q (link rd h c p)) false r) [] []
+    linked-so true rd h c p r = refl
+    linked-so false rd h c p r = refl
 
 -- the session's part of row 5
 pends-so : (y : Layout) (m : List ℕ) (s : Session) → checkOf m ≡ good y → countIn y m ≢ 0 → isOff (s .power) || not (eqb (countIn (layoutOf m) m) 0) ≡ true
@@ -650,30 +794,30 @@ module _ (m room : List ℕ) (c : Call) (bad : Bool) (x : Listed m room c bad) w
   unfolding all
   row-5 y s e d = let k = check-0 m y (sym e) in x .same s ∙ first-at 3 (all s) (x .last s) (k .0, (k .1, (k .2, d)))
 
-  module _ (y : Layout) (idle : Idle y m) (st : State) (b : Bool) (r : Register) where
+  module _ (y : Layout) (idle : Idle y m) (st : State) (b : Bool) (r : Aside) where
     idle-5 : not (eqb (countIn (layoutOf m) m) 0) ≡ false
     idle-5 = ap not (eq-eqb (countIn (layoutOf m) m) 0 (subst (λ (x : Layout). countIn x m ≡ 0) (check-good m y (idle .sound) .layout) (idle .nothing)))
 
-    row-6 : b ≡ false → asked answerOf (on st b r) m c ≡ leaves 6 (on st b r) m room
+    row-6 : b ≡ false → asked answerOf (awake st b r) m c ≡ leaves 6 (awake st b r) m room
     unfolding all
     row-6 e =
         let k = check-0 m y (sym (idle .sound)) in
-        x .same (on st b r) ∙ first-at 4 (all (on st b r)) (x .last (on st b r)) (k .0, (k .1, (k .2, (idle-5, ap not e))))
+        x .same (awake st b r) ∙ first-at 4 (all (awake st b r)) (x .last (awake st b r)) (k .0, (k .1, (k .2, (idle-5, ap not e))))
 
-    row-13 : b ≡ true → bad ≡ true → asked answerOf (on st b r) m c ≡ leaves 13 (on st b r) m room
+    row-13 : b ≡ true → bad ≡ true → asked answerOf (awake st b r) m c ≡ leaves 13 (awake st b r) m room
     unfolding all
     row-13 e d =
         let k = check-0 m y (sym (idle .sound)) in
-        x .same (on st b r) ∙ first-at 5 (all (on st b r)) (x .last (on st b r)) (k .0, (k .1, (k .2, (idle-5, (ap not e, d)))))
+        x .same (awake st b r) ∙ first-at 5 (all (awake st b r)) (x .last (awake st b r)) (k .0, (k .1, (k .2, (idle-5, (ap not e, d)))))
 
     -- past 13
-    row-more : (k : ℕ) → b ≡ true → bad ≡ false → Reaches k (x .more (on st b r))
-        → asked answerOf (on st b r) m c ≡ rowAt k (x .more (on st b r)) (x .last (on st b r))
+    row-more : (k : ℕ) → b ≡ true → bad ≡ false → Reaches k (x .more (awake st b r))
+        → asked answerOf (awake st b r) m c ≡ rowAt k (x .more (awake st b r)) (x .last (awake st b r))
     unfolding all
     row-more k e d h =
         let i = check-0 m y (sym (idle .sound)) in
-        x .same (on st b r)
-        ∙ first-at (suc (suc (suc (suc (suc (suc k)))))) (all (on st b r)) (x .last (on st b r)) (i .0, (i .1, (i .2, (idle-5, (ap not e, (d, h))))))
+        x .same (awake st b r)
+        ∙ first-at (suc (suc (suc (suc (suc (suc k)))))) (all (awake st b r)) (x .last (awake st b r)) (i .0, (i .1, (i .2, (idle-5, (ap not e, (d, h))))))
 
   transfer-lines : TransferRefused answerOf m c room
   unfolding all
@@ -726,7 +870,7 @@ bad-data y at n d e f =
     go (inl g) = ap (λ (b : Bool). b || ltb (pairsIn y) n) (bad-count y at n g)
     go (inr l) = or-right (badCount y at n) (ltb (pairsIn y) n) (lt-ltb (pairsIn y) n l)
 
-port-lines : (m : List ℕ) (st : State) (r : Register) → Idle (layoutOf m) m → PortRefused answerOf (layoutOf m) m st r
+port-lines : (m : List ℕ) (st : State) (r : Aside) → Idle (layoutOf m) m → PortRefused answerOf (layoutOf m) m st r
 unfolding read-listed
 port-lines m st r idle =
     record {
@@ -762,12 +906,12 @@ when-refused =
             malformed = row-7 y a st r idle;
             checksum = row-8 y a st r idle;
           };
-      wrong = λ y a r idle. wrongs a r (own-idle y (a .image) idle);
-      dropped = λ y a r idle. subst (λ (z : Layout). Dropped answerOf z a r) (sym (own-layout y (a .image) idle)) (drop-lines a r (own-idle y (a .image) idle));
-      errors = λ y a r q h c idle l.
-          subst (λ (z : Layout). Errors answerOf z a r q h c) (sym (own-layout y (a .image) idle)) (error-lines a r (own-idle y (a .image) idle) l q h c);
-      locks = λ y a r h c idle l.
-          subst (λ (z : Layout). Locks answerOf z a r h c) (sym (own-layout y (a .image) idle)) (lock-lines a r (own-idle y (a .image) idle) l h c);
+      wrong = λ y a r rd idle. wrongs a r rd (own-idle y (a .image) idle);
+      dropped = λ y a r rd idle. subst (λ (z : Layout). Dropped answerOf z a r rd) (sym (own-layout y (a .image) idle)) (drop-lines a r rd (own-idle y (a .image) idle));
+      errors = λ y a r rd q h c idle l.
+          subst (λ (z : Layout). Errors answerOf z a r rd q h c) (sym (own-layout y (a .image) idle)) (error-lines a r rd (own-idle y (a .image) idle) l q h c);
+      locks = λ y a r rd h c idle l.
+          subst (λ (z : Layout). Locks answerOf z a r rd h c) (sym (own-layout y (a .image) idle)) (lock-lines a r rd (own-idle y (a .image) idle) l h c);
       power-up = λ m s n u e. start-refused m s n u e;
       no-image = alone-lines;
       reads = λ m at n room. transfer-lines m room (read at n room) (badCount (layoutOf m) at n) (read-listed m at n room);

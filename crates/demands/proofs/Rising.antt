@@ -14,12 +14,16 @@ use Rattle.frames.specs.declared.Order.{Order}
 use Rattle.frames.specs.declared.Order.the-variants as order
 use Rattle.states.specs.declared.Half.{Half}
 use Rattle.states.specs.declared.Half.the-variants as half
-use Rattle.states.specs.Commands.{linkOf, isKilled}
-use Rattle.plans.specs.Effects.{Scene, halfKill, halfAccess, effectOf}
+use lib.Dec.{eqb}
+use Rattle.image.specs.Content.{lengthOf, pcWord}
+use Rattle.replies.specs.declared.Reply.the-variants as reply
+use Rattle.states.specs.Commands.{linkOf, isKilled, fallen}
+use Rattle.states.specs.Inventory.{acknowledged}
+use Rattle.plans.specs.Effects.{Scene, does, turns, handleIn, halfKill, halfAccess, effectOf}
 use Rattle.tag.specs.Table.{scene, command, liveOf}
 use Rattle.tag.specs.Steps.{input}
 use Rattle.tag.specs.Port.{portWrites, writtenWords, portWords}
-use Rattle.demands.specs.Calls.{Call, powerUp, admit, frame, ask, release, register, read, write, Tag, wordsIn}
+use Rattle.demands.specs.Calls.{Call, powerUp, frame, ask, release, register, read, write, Tag, wordsIn}
 use Rattle.demands.specs.Demands.{Rising}
 
 -- one more word behind all others
@@ -35,6 +39,16 @@ rising-row o f (suc n) =
     (all-below (λ u. u .at < o + n) (λ j. store (o + j) (f j)) n (λ j l. omega arith))
 
 rising-order : (c : Scene) (o : Order) → Rising (effectOf c o .words)
+rising-order c (order.QueryRep k) = tt
+rising-order c (order.Ack n) = go (eqb (handleIn c) n)
+  where
+    go : (b : Bool)
+        → Rising (cond b (does c (acknowledged (c .state)) (reply.Epc (c .layout .epc .at + 1) (lengthOf (pcWord (c .layout) (c .image)) + 1)) []) (turns (c .flags) (fallen (c .state))) .words)
+    go true = tt
+    go false = tt
+rising-order c (order.Query sel t q) = tt
+rising-order c (order.QueryAdjust k u) = tt
+rising-order c (order.Select x p) = tt
 rising-order c order.Nak = tt
 rising-order c order.ReqRn = tt
 rising-order c (order.Read s) = tt
@@ -82,7 +96,6 @@ module _ (y : Layout) (m : List ℕ) (at : ℕ) (d : List ℕ) where
 
 pub rising : (t : Tag) (c : Call) → Rising (wordsIn t c)
 rising t (powerUp s) = tt
-rising t (admit n) = tt
 rising t (frame f bits fresh room s) = let i = input (t .session) (t .image) f bits fresh room s in rising-order (scene i) (command i .order)
 rising t ask = tt
 rising t release = tt

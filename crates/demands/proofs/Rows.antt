@@ -28,7 +28,7 @@ use Rattle.tag.specs.Result.{Result, lost, firstOf}
 use Rattle.tag.specs.Steps.{gives, input}
 use Rattle.states.specs.Commands.{isKilled}
 use Rattle.plans.specs.Effects.{Effect, effectOf}
-use Rattle.tag.specs.Table.{Input, isOff, liveOf, commandIn, scene, effect, isError, replyOf, fits, storesOf, replied, frameOf}
+use Rattle.tag.specs.Table.{Input, isOff, live, turnedTo, liveOf, commandIn, scene, effect, isError, replyOf, fits, storesOf, replied, frameOf}
 use Rattle.tag.specs.Port.{badCount, badData, portWords, refusals, registerTo, writeOf}
 use Rattle.tag.specs.PortSteps.{wroteTo}
 use Rattle.tag.proofs.Plans.{none-or}
@@ -156,7 +156,7 @@ module _ (v : Session) (m f : List ℕ) (bits fresh : ℕ) (room : List ℕ) (g 
   cut s = lost m (storesOf changeStores (with-power s)) s room
 
   whole : ℕ → Result
-  whole s = replied (with-power s) 0 (effect (with-power s) .state) (storesOf changeStores (with-power s))
+  whole s = replied (with-power s) 0 (turnedTo (live (with-power s)) (effect (with-power s) .flags) (effect (with-power s) .state)) (storesOf changeStores (with-power s))
 
   ends : ℕ → Result
   ends s = cond (ltb s (length (storesOf changeStores (with-power s)))) (cut s) (whole s)
@@ -186,7 +186,7 @@ module _ (v : Session) (m f : List ℕ) (bits fresh : ℕ) (room : List ℕ) (g 
 
       go : (x : Message) → heardOf f bits ≡ x → at x .code ≡ code.Nothing → Plan (layoutOf m) m (at x .words)
       go (heard.refused k) q e = no-plan (layoutOf m) m
-      go (heard.said c) q e = order-plan (layoutOf m) m g (liveOf (v .power) .state) f fresh (c .order) (said-small f bits c q) e
+      go (heard.said c) q e = order-plan (layoutOf m) m g (liveOf (v .power) .flags) (liveOf (v .power) .state) f fresh (c .order) (said-small f bits c q) e
 
   front-idle : None (front 0) → countIn (layoutOf m) m ≡ 0
   unfolding frameOf with-power front

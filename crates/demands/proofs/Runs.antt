@@ -28,7 +28,7 @@ use Rattle.stores.proofs.Cuts.{change-left, power-left}
 use Rattle.tag.specs.declared.Session.{Session}
 use Rattle.tag.specs.Result.{Result, leaves, firstOf}
 use Rattle.tag.specs.Port.{badCount, refusals, readOf}
-use Rattle.demands.specs.Calls.{Call, powerUp, admit, frame, ask, release, register, read, write, Tag, answerOf, torn, Turn, runImage}
+use Rattle.demands.specs.Calls.{Call, powerUp, frame, ask, release, register, read, write, Tag, answerOf, torn, Turn, runImage}
 use Rattle.demands.specs.Demands.{Storing, byRadio, byPort, lasting, Kept, AnyRun}
 use Rattle.demands.proofs.Sound.{PairKept, Keeps, Sound, free-keeps}
 use Rattle.demands.proofs.Plans.{Plan, no-plan, plan-change}
@@ -380,7 +380,6 @@ module _ (y : Layout) (m : List ℕ) (s : Steady y m) (h : Lows m) (v : Session)
       let d : Cut = record { whole = k; byte = j } in
       subst Next (sym (power-torn y m (s .sound) d))
       (subst (λ (z : Layout). Next (cutAfter d m (powerStores z m))) (s .sound .layout) (power-step y m s h d, cut-lows d m (powerStores y m) h))
-  next (admit n) j = same-next j m m refl refl
   next (frame f bits fresh room k) j = command-next (byRadio f bits fresh room) k j
   next ask j = same-next j m m refl refl
   next release j = same-next j m m refl refl

@@ -19,7 +19,7 @@ use Rattle.tag.specs.declared.Session.{Session}
 use Rattle.tag.specs.Result.{Result, lost, firstOf}
 use Rattle.tag.specs.Steps.{input}
 use Rattle.stores.specs.Stores.{changeStores}
-use Rattle.tag.specs.Table.{Input, liveOf, effect, isError, replyOf, fits, storesOf, everything, replied, frameOf}
+use Rattle.tag.specs.Table.{Input, live, turnedTo, movedTo, liveOf, effect, isError, replyOf, fits, storesOf, everything, replied, frameOf}
 use Rattle.demands.specs.Calls.{Tag, answerOf}
 use Rattle.demands.specs.Demands.{Storing, lasting}
 use Rattle.demands.specs.Refusals.{TooLittle}
@@ -44,7 +44,7 @@ module _ (v : Session) (m f : List ℕ) (bits fresh : ℕ) where
   before room power = take 9 (frameOf changeStores (at room power) .rows)
 
   done : List ℕ → ℕ → Result
-  done room power = replied (at room power) 0 (effect (at room power) .state) (storesOf changeStores (at room power))
+  done room power = replied (at room power) 0 (turnedTo (live (at room power)) (effect (at room power) .flags) (effect (at room power) .state)) (storesOf changeStores (at room power))
 
   behind : List ℕ → ℕ → Result
   behind room power = first (drop 9 (frameOf changeStores (at room power) .rows)) (done room power)
@@ -83,7 +83,7 @@ module _ (v : Session) (m f : List ℕ) (bits fresh : ℕ) where
     where
       rest : Bool → Bool → Bool → Result
       rest a b c =
-          cond a (replied (at room power) 10 (used (liveOf (v .power) .state)) [])
+          cond a (replied (at room power) 10 (movedTo (live (at room power)) (used (liveOf (v .power) .state))) [])
           (cond (not b) (everything (at room power) 4) (cond c (lost m (storesOf changeStores (at room power)) power room) (done room power)))
 
       go : (a b c : Bool) → Replies (rest a b c) → rest a b c .reply ≡ replyLength (replyOf (at room power))

@@ -34,11 +34,11 @@ use Rattle.tag.specs.Result.{Result, leaves, firstOf, lost}
 use Rattle.tag.specs.One.{one-outcome}
 use Rattle.states.specs.Commands.{linkOf, isKilled, used}
 use Rattle.tag.specs.Power.{powerUpOf}
-use Rattle.tag.specs.Table.{Input, stateOf, liveOf, isError, effect, replyOr, replyOf, fits, dropped, replied, frameOf, admitOf}
+use Rattle.tag.specs.Table.{Input, stateOf, live, movedTo, liveOf, isError, effect, replyOr, replyOf, fits, dropped, replied, frameOf}
 use Rattle.tag.specs.Steps.{input}
 use Rattle.stores.specs.Stores.{changeStores}
 use Rattle.tag.specs.Port.{askOf, releaseOf, registerOf, readBits, readOf, writeOf}
-use Rattle.demands.specs.Calls.{Call, powerUp, admit, frame, ask, release, register, read, write, Tag, answerOf, sessionIn, imageIn, roomIn, powerIn, storesIn, valueIn, answersIn}
+use Rattle.demands.specs.Calls.{Call, powerUp, frame, ask, release, register, read, write, Tag, answerOf, sessionIn, imageIn, roomIn, powerIn, storesIn, valueIn, answersIn}
 use Rattle.demands.specs.Demands.{refuses, AnErrorCode, Tabled, Checks, orderIn, numbersOf, Under, Exact, Demand1}
 use Rattle.demands.proofs.Rows.{Rows, Each, first-each}
 
@@ -53,6 +53,8 @@ silence m room (reply.Number n) e = absurd (omega arith)
 silence m room (reply.Success h) e = absurd (omega arith)
 silence m room (reply.Words i k h) e = absurd (omega arith)
 silence m room (reply.Error c h) e = absurd (omega arith)
+silence m room (reply.Drawn n) e = absurd (omega arith)
+silence m room (reply.Epc i k) e = absurd (omega arith)
 
 module _ (t : Tag) (c : Call) where
   -- a refusal, and answer 0
@@ -129,7 +131,7 @@ module _ (v : Session) (m f : List ℕ) (bits fresh : ℕ) (room : List ℕ) (s 
   code-known (code.Error fault.PastEnd) b q = inr (inl refl)
   code-known (code.Error fault.NoRight) b q = inr (inr refl)
 
-  error-row : isError (effect handed .code) && fits (replyOf handed) room ≡ true → Tabled tag call (replied handed 10 (used (stateOf handed)) [])
+  error-row : isError (effect handed .code) && fits (replyOf handed) room ≡ true → Tabled tag call (replied handed 10 (movedTo (live handed) (used (stateOf handed))) [])
   unfolding tag call handed
   error-row e =
       let c = effect handed .code in
@@ -227,13 +229,6 @@ module _ (v : Session) (m : List ℕ) where
 
 -- calls without an image, and power-up
 module _ (t : Tag) where
-  admit-tabled : (n : ℕ) → Tabled t (admit n) (firstOf (admitOf (t .session) n))
-  unfolding admitOf
-  admit-tabled n =
-      let c = admit n in
-      first-each (Tabled t c) (admitOf (t .session) n .rows) (admitOf (t .session) n .done)
-      (λ e. refusal t c 5 refl, (λ e. refusal t c 6 refl, (λ e. refusal t c 9 refl, tt))) (zero-answer t c _ refl (λ q. refl) (refl, refl) refl)
-
   ask-tabled : Tabled t ask (firstOf (askOf (t .session)))
   unfolding askOf
   ask-tabled =
@@ -261,9 +256,8 @@ module _ (t : Tag) where
 
 -- the numbers of a call's rows, and of what is left where none holds
 by-rows : (t : Tag) (c : Call) → (numbersOf (answersIn t c .rows) ≡ orderIn c) × (answersIn t c .done .number ≡ 0)
-unfolding powerUpOf admitOf frameOf askOf releaseOf registerOf readOf writeOf
+unfolding powerUpOf frameOf askOf releaseOf registerOf readOf writeOf
 by-rows t (powerUp s) = (refl, refl)
-by-rows t (admit n) = (refl, refl)
 by-rows t (frame f bits fresh room s) = (refl, refl)
 by-rows t ask = (refl, refl)
 by-rows t release = (refl, refl)
@@ -290,7 +284,6 @@ exact t c =
 tabled : (t : Tag) (c : Call) → Tabled t c (answerOf t c)
 unfolding tag call handed tag-of
 tabled t (powerUp s) = power-tabled t s
-tabled t (admit n) = admit-tabled t n
 tabled t (frame f bits fresh room s) = frame-tabled (t .session) (t .image) f bits fresh room s
 tabled t ask = ask-tabled t
 tabled t release = release-tabled t

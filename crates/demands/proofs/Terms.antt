@@ -1,6 +1,7 @@
 -- The terms of the demands come to what the rules say. Assumes nothing.
-use Prim.Native.Nat.{ℕ, _+_, _-_, _*_, _/_, _≤_, _<_}
+use Prim.Native.Nat.{ℕ, zero, suc, _+_, _-_, _*_, _/_, _≤_, _<_}
 use mathlib.Core.Path.{_≡_, refl, ap, ap₂}
+use mathlib.Core.Logic.{_≢_}
 use mathlib.Core.Bool.{Bool, true, false, cond}
 use mathlib.Core.List.{List, [], _∷_, _++_}
 use native.Mathlib.Omega.{arith}
@@ -10,15 +11,18 @@ use Rattle.bits.specs.Words.{wordAt, withWord, Store, store, after}
 use Rattle.bits.specs.Bits.{bitsOf, wordsBits}
 use Rattle.bits.specs.Below.{below}
 use Rattle.crc.specs.Crc.{run, crcOf}
+use Rattle.crc.specs.Crc5.{run5, crc5Of}
 use Rattle.image.specs.declared.Layout.{Layout}
 use Rattle.image.specs.Layout.{layoutOf, blocksIn}
 use Rattle.image.specs.Content.{pairAt, pending}
 use Rattle.replies.specs.Replies.{checked}
 use Rattle.replies.specs.Pack.{filled, packed}
 use Rattle.replies.proofs.Laws.{packed-none}
+use Rattle.states.specs.declared.Flags.{Flags}
+use Rattle.states.specs.Inventory.{flagAt, withFlag}
 use Rattle.stores.specs.Stores.{finished, epcCrc, powerStores}
 use Rattle.tag.specs.Port.{numberIn}
-use Rattle.demands.specs.Terms.{divided, Headed, Words, Bits, Terms}
+use Rattle.demands.specs.Terms.{divided, divided5, Acting, Headed, Words, Bits, Terms}
 use Rattle.demands.proofs.Rights.{lock-masked}
 use Rattle.demands.proofs.Fields.{fields-so}
 use Rattle.demands.proofs.Images.{images-so}
@@ -53,6 +57,8 @@ bits-so m =
       success = λ h. refl;
       words = λ i k h. refl;
       error = λ e h. refl;
+      drawn = λ n. refl;
+      epc = λ i k. refl;
       none = packed-none;
       byte = λ b c d e f g h i x bs room. ap (λ (v : ℕ). v ∷ packed bs room) (omega arith);
       last = λ b x room. ap₂ _∷_ (omega arith) (packed-none room);
@@ -90,6 +96,70 @@ crc-so : (bs : List ℕ) → crcOf bs ≡ 0xFFFF - divided 0xFFFF bs
 unfolding crcOf
 crc-so bs = ap (λ (r : ℕ). 0xFFFF - r) (runs 0xFFFF bs)
 
+runs5 : (r : ℕ) (bs : List ℕ) → run5 r bs ≡ divided5 r bs
+runs5 r [] = refl
+runs5 r (b ∷ bs) = runs5 _ bs
+
+crc5-so : (bs : List ℕ) → crc5Of bs ≡ divided5 0x09 bs
+unfolding crc5Of
+crc5-so bs = runs5 0x09 bs
+
+-- the five flags, one by one
+
+set-so : (f : Flags) (t : ℕ) (b : Bool) → t ≤ 4 → flagAt (withFlag f t b) t ≡ b
+set-so f zero b l = refl
+set-so f (suc zero) b l = refl
+set-so f (suc (suc zero)) b l = refl
+set-so f (suc (suc (suc zero))) b l = refl
+set-so f (suc (suc (suc (suc zero)))) b l = refl
+set-so f (suc (suc (suc (suc (suc t))))) b l = absurd (omega arith)
+
+kept-so : (f : Flags) (t k : ℕ) (b : Bool) → t ≤ 4 → k ≤ 4 → k ≢ t → flagAt (withFlag f t b) k ≡ flagAt f k
+kept-so f zero zero b l m d = absurd (d refl)
+kept-so f zero (suc zero) b l m d = refl
+kept-so f zero (suc (suc zero)) b l m d = refl
+kept-so f zero (suc (suc (suc zero))) b l m d = refl
+kept-so f zero (suc (suc (suc (suc zero)))) b l m d = refl
+kept-so f (suc zero) zero b l m d = refl
+kept-so f (suc zero) (suc zero) b l m d = absurd (d refl)
+kept-so f (suc zero) (suc (suc zero)) b l m d = refl
+kept-so f (suc zero) (suc (suc (suc zero))) b l m d = refl
+kept-so f (suc zero) (suc (suc (suc (suc zero)))) b l m d = refl
+kept-so f (suc (suc zero)) zero b l m d = refl
+kept-so f (suc (suc zero)) (suc zero) b l m d = refl
+kept-so f (suc (suc zero)) (suc (suc zero)) b l m d = absurd (d refl)
+kept-so f (suc (suc zero)) (suc (suc (suc zero))) b l m d = refl
+kept-so f (suc (suc zero)) (suc (suc (suc (suc zero)))) b l m d = refl
+kept-so f (suc (suc (suc zero))) zero b l m d = refl
+kept-so f (suc (suc (suc zero))) (suc zero) b l m d = refl
+kept-so f (suc (suc (suc zero))) (suc (suc zero)) b l m d = refl
+kept-so f (suc (suc (suc zero))) (suc (suc (suc zero))) b l m d = absurd (d refl)
+kept-so f (suc (suc (suc zero))) (suc (suc (suc (suc zero)))) b l m d = refl
+kept-so f (suc (suc (suc (suc zero)))) zero b l m d = refl
+kept-so f (suc (suc (suc (suc zero)))) (suc zero) b l m d = refl
+kept-so f (suc (suc (suc (suc zero)))) (suc (suc zero)) b l m d = refl
+kept-so f (suc (suc (suc (suc zero)))) (suc (suc (suc zero))) b l m d = refl
+kept-so f (suc (suc (suc (suc zero)))) (suc (suc (suc (suc zero)))) b l m d = absurd (d refl)
+kept-so f (suc (suc (suc (suc (suc t))))) k b l m d = absurd (omega arith)
+kept-so f zero (suc (suc (suc (suc (suc k))))) b l m d = absurd (omega arith)
+kept-so f (suc zero) (suc (suc (suc (suc (suc k))))) b l m d = absurd (omega arith)
+kept-so f (suc (suc zero)) (suc (suc (suc (suc (suc k))))) b l m d = absurd (omega arith)
+kept-so f (suc (suc (suc zero))) (suc (suc (suc (suc (suc k))))) b l m d = absurd (omega arith)
+kept-so f (suc (suc (suc (suc zero)))) (suc (suc (suc (suc (suc k))))) b l m d = absurd (omega arith)
+
+acting-so : (t : ℕ) (b : Bool) → Acting t b
+acting-so t b =
+    record {
+      action0 = (refl, refl);
+      action1 = (refl, refl);
+      action2 = (refl, refl);
+      action3 = (refl, refl);
+      action4 = (refl, refl);
+      action5 = (refl, refl);
+      action6 = (refl, refl);
+      action7 = (refl, refl);
+    }
+
 pub terms-so : Terms
 unfolding bitsOf wordsBits withWord
 terms-so =
@@ -107,6 +177,9 @@ terms-so =
       counted = λ f n. refl;
       counted-none = λ f. refl;
       crc = crc-so;
+      crc5 = crc5-so;
+      flags = λ f. record { read = (refl, refl, refl, refl, refl); set = set-so f; kept = kept-so f };
+      actions = acting-so;
       header = header-so;
       images = images-so;
       words = words-so;
@@ -126,7 +199,9 @@ terms-so =
       register = λ r. register-so (r .unwritten) (r .killed);
       cleared = refl;
       off = refl;
-      under = λ st held r. refl;
+      under = λ f st held r. refl;
+      new-flags = refl;
+      fell = λ q n k. (refl, refl, refl, refl, refl);
       leaving = λ n s m room. refl;
       giving = λ n s k j m room. refl;
     }
