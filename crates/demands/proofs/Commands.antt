@@ -1,5 +1,5 @@
 -- Demand 2: where no refusal applies, the table gives its last row; command by command. Assumes nothing.
-use Prim.Native.Nat.{ℕ, _+_, _-_, _*_, _/_, _%_, _≤_}
+use Prim.Native.Nat.{ℕ, _+_, _-_, _*_, _/_, _%_, _^_, _≤_}
 use mathlib.Core.Path.{_≡_, refl, sym, ap, ap₂, _∙_, subst}
 use mathlib.Core.Logic.{_≢_, _⊎_, inl, inr}
 use mathlib.Core.Bool.{true≢false, Bool, true, false, cond, not, _&&_}
@@ -44,12 +44,13 @@ use Rattle.states.specs.declared.State.the-variants as state
 use Rattle.tag.specs.declared.Session.{Session}
 use Rattle.tag.specs.Result.{Result, leaves, lost, firstOf}
 use Rattle.tag.specs.Steps.{gives, input}
-use Rattle.states.specs.Commands.{asksOf, linkOf, isCovered, isKilled, breaks, accessWord, isLinked}
+use Rattle.states.specs.Commands.{asksOf, linkOf, isCovered, isKilled, breaks, accessWord, isLinked, fallen}
+use Rattle.states.specs.Inventory.{drawn, slotFrom, inverted, queried, leftFlags, adjusted, repeated, acknowledged, selects, selectedFlags}
 use Rattle.states.specs.Steps.{wrongCommand}
 use Rattle.states.specs.Commands as wide
 use Rattle.states.specs.declared.Who.{Who}
 use Rattle.states.specs.declared.Who.the-variants as who
-use Rattle.plans.specs.Effects.{Effect, effectOf}
+use Rattle.plans.specs.Effects.{Effect, turns, drawnReply, effectOf}
 use Rattle.tag.specs.Table.{Input, refusedBy, commandIn, scene, effect, isError, replyOr, replyOf, fits, frameOf}
 use Rattle.demands.specs.Facts.{marked, Slotted, Singled, Numbered, FirstStep, Matches, Adjusts, CountsDown, Selected, Takeable}
 use Rattle.demands.specs.Facts as facts
@@ -60,6 +61,7 @@ use Rattle.demands.specs.Calls.{Aside, awake, answerOf, Idle}
 use Rattle.demands.specs.Commands.{Air, answersTo, linked, link, registered, flagged, quiet, replies, showsEpc, obeyed, Turns, Does, Rounds, Radio, NoImage, Transfers, Demand2}
 use Rattle.demands.proofs.Rows.{Rows, None, none-first}
 use Rattle.demands.proofs.Cuts.{started-so}
+use Rattle.demands.proofs.Rounds.{slotted-session, singled-session, first-step, matches-so, matches-not, adjusts-so, says-up-down, counts-so, selects-so, selects-not, taken-choice}
 use Rattle.demands.proofs.Codes.{and-false, read-clear, write-clear, lock-clear, perma-read-clear, perma-clear}
 
 -- states by name
@@ -342,8 +344,147 @@ module _ (a : Air) (r : Aside) (q : Round) (idle : Idle (layoutOf (a .image)) (a
       }
 
 -- the commands of inventory
-rounds : (a : Air) (r : Aside) (q : Round) → Idle (layoutOf (a .image)) (a .image) → Rounds answerOf (layoutOf (a .image)) a r q
-rounds a r q idle = ?
+module _ (a : Air) (r : Aside) (idle : Idle (layoutOf (a .image)) (a .image)) where
+  -- an order that comes to e
+  comes-to : (st : State) (q : Round) (n : ℕ) (o : Order) (e : Effect) → wrongCommand st (record { number = n; order = o }) ≡ false
+      → breaks (layoutOf (a .image)) (a .image) (linkOf st) (linkOf st .half) (asksOf o .part) ≡ false → at a r q idle st o ≡ e → e .code ≡ code.Nothing
+      → Turns answerOf (layoutOf (a .image)) a r q n o st (e .flags) (record { state = e .state; reply = e .reply; words = e .words })
+  unfolding Comes
+  comes-to st q n o e w b h c =
+      subst (λ (x : Effect). Turns answerOf (layoutOf (a .image)) a r q n o st (x .flags) (record { state = x .state; reply = x .reply; words = x .words })) h
+      (order-done a r q idle st n o w b (ap (λ (x : Effect). x .code) h ∙ c))
+
+  between : (st : State) (q : Round) → breaks (layoutOf (a .image)) (a .image) (linkOf st) (linkOf st .half) part.Between ≡ false
+  between st q = unbroken a r q idle (linkOf st) (linkOf st .half)
+
+  -- a slot that is drawn or counted down
+  waits-so : (q : Round) (slot : ℕ) → slot ≢ 0 → drawn q slot (a .fresh) ≡ state.Arbitrate q slot
+  waits-so q slot d = ap (λ (b : Bool). cond b (state.Reply q (a .fresh)) (state.Arbitrate q slot)) (ne-eqb slot 0 d)
+
+  replies-so : (q : Round) (slot : ℕ) → slot ≡ 0 → drawn q slot (a .fresh) ≡ state.Reply q (a .fresh)
+  replies-so q slot e = ap (λ (b : Bool). cond b (state.Reply q (a .fresh)) (state.Arbitrate q slot)) (eq-eqb slot 0 e)
+
+  -- Query
+  query-to : (st : State) (q : Round) (sel t : ℕ) (p : Round) (g : Flags) (to : State) → st ≢ state.Killed → FirstStep st (p .session) (r .flags) g
+      → queried g sel t p (a .fresh) ≡ to
+      → Turns answerOf (layoutOf (a .image)) a r q 0 (order.Query sel t p) st g (record { state = to; reply = drawnReply to; words = [] })
+  unfolding at
+  query-to st q sel t p g to k h e =
+      comes-to st q 0 (order.Query sel t p) (turns g to) (rw (not-killed st k)) (between st q)
+      (ap (λ (f : Flags). turns f (queried f sel t p (a .fresh))) (first-step st (p .session) (r .flags) g h) ∙ ap (turns g) e) refl
+
+  joins-so : (sel t : ℕ) (p : Round) (g : Flags) (to : State) → Matches g sel t (p .session) → drawn p (slotFrom p (a .fresh)) (a .fresh) ≡ to → queried g sel t p (a .fresh) ≡ to
+  joins-so sel t p g to m e = ap (λ (b : Bool). cond b (drawn p (slotFrom p (a .fresh)) (a .fresh)) state.Ready) (matches-so g sel t (p .session) m) ∙ e
+
+  -- QueryAdjust and QueryRep in Arbitrate and Reply
+  session-right : (st : State) (q : Round) (n : ℕ) (o : Order) → wide.hears (asksOf o .who) st n ≡ eqb (q .session) (q .session) → asksOf o .cover ≡ false → asksOf o .bad ≡ false
+      → wrongCommand st (record { number = n; order = o }) ≡ false
+  session-right st q n o h c b = rw (h ∙ eq-eqb (q .session) (q .session) refl, c, b)
+
+  adjust-to : (st : State) (q : Round) (slot u new : ℕ) (to : State) → Slotted st q slot → Adjusts u (q .q) new
+      → drawn (record { session = q .session; q = new }) (a .fresh % 2 ^ new) (a .fresh) ≡ to
+      → Does answerOf (layoutOf (a .image)) a r q 0 (order.QueryAdjust (q .session) u) st (record { state = to; reply = drawnReply to; words = [] })
+  unfolding at
+  adjust-to st q slot u new to x h e =
+      comes-to st q 0 (order.QueryAdjust (q .session) u) (turns (r .flags) to)
+      (session-right st q 0 (order.QueryAdjust (q .session) u) (slotted-session st q slot (q .session) 0 x) refl (says-up-down u (q .q) new h)) (between st q) (go st q slot x h e) refl
+    where
+      go : (st : State) (q : Round) (slot : ℕ) → Slotted st q slot → Adjusts u (q .q) new → drawn (record { session = q .session; q = new }) (a .fresh % 2 ^ new) (a .fresh) ≡ to
+          → turns (leftFlags (r .flags) st) (adjusted st u (a .fresh)) ≡ turns (r .flags) to
+      go st q slot (facts.arbitrate p s) h e = ap (λ (k : ℕ). turns (r .flags) (drawn (record { session = q .session; q = k }) (a .fresh % 2 ^ k) (a .fresh))) (adjusts-so u (q .q) new h) ∙ ap (turns (r .flags)) e
+      go st q slot (facts.reply p s) h e = ap (λ (k : ℕ). turns (r .flags) (drawn (record { session = q .session; q = k }) (a .fresh % 2 ^ k) (a .fresh))) (adjusts-so u (q .q) new h) ∙ ap (turns (r .flags)) e
+
+  rep-to : (st : State) (q : Round) (slot next : ℕ) (to : State) → Slotted st q slot → CountsDown slot next → drawn q next (a .fresh) ≡ to
+      → Does answerOf (layoutOf (a .image)) a r q 0 (order.QueryRep (q .session)) st (record { state = to; reply = drawnReply to; words = [] })
+  unfolding at
+  rep-to st q slot next to x h e =
+      comes-to st q 0 (order.QueryRep (q .session)) (turns (r .flags) to)
+      (session-right st q 0 (order.QueryRep (q .session)) (slotted-session st q slot (q .session) 0 x) refl refl) (between st q) (go st q slot x h e) refl
+    where
+      go : (st : State) (q : Round) (slot : ℕ) → Slotted st q slot → CountsDown slot next → drawn q next (a .fresh) ≡ to
+          → turns (leftFlags (r .flags) st) (repeated st (a .fresh)) ≡ turns (r .flags) to
+      go st q slot (facts.arbitrate p s) h e = ap (λ (k : ℕ). turns (r .flags) (drawn q k (a .fresh))) (counts-so slot next h) ∙ ap (turns (r .flags)) e
+      go st q slot (facts.reply p s) h e = ap (λ (k : ℕ). turns (r .flags) (drawn q k (a .fresh))) (counts-so slot next h) ∙ ap (turns (r .flags)) e
+
+  -- in Acknowledged, Open and Secured
+  adjust-left : (st : State) (q : Round) (u new : ℕ) → Singled st q → Adjusts u (q .q) new
+      → Turns answerOf (layoutOf (a .image)) a r q 0 (order.QueryAdjust (q .session) u) st (inverted (r .flags) (q .session)) (quiet state.Ready)
+  unfolding at
+  adjust-left st q u new x h =
+      comes-to st q 0 (order.QueryAdjust (q .session) u) (turns (inverted (r .flags) (q .session)) state.Ready)
+      (session-right st q 0 (order.QueryAdjust (q .session) u) (singled-session st q (q .session) 0 x) refl (says-up-down u (q .q) new h)) (between st q) (go st q x) refl
+    where
+      go : (st : State) (q : Round) → Singled st q → turns (leftFlags (r .flags) st) (adjusted st u (a .fresh)) ≡ turns (inverted (r .flags) (q .session)) state.Ready
+      go st q (facts.acknowledged p n) = refl
+      go st q (facts.opened k) = refl
+      go st q (facts.secured k) = refl
+
+  rep-left : (st : State) (q : Round) → Singled st q → Turns answerOf (layoutOf (a .image)) a r q 0 (order.QueryRep (q .session)) st (inverted (r .flags) (q .session)) (quiet state.Ready)
+  unfolding at
+  rep-left st q x =
+      comes-to st q 0 (order.QueryRep (q .session)) (turns (inverted (r .flags) (q .session)) state.Ready)
+      (session-right st q 0 (order.QueryRep (q .session)) (singled-session st q (q .session) 0 x) refl refl) (between st q) (go st q x) refl
+    where
+      go : (st : State) (q : Round) → Singled st q → turns (leftFlags (r .flags) st) (repeated st (a .fresh)) ≡ turns (inverted (r .flags) (q .session)) state.Ready
+      go st q (facts.acknowledged p n) = refl
+      go st q (facts.opened k) = refl
+      go st q (facts.secured k) = refl
+
+  -- ACK with the right number, and with another one
+  ack-to : (st : State) (q : Round) (n : ℕ) → linkOf st .handle ≡ n → wrongCommand st (record { number = 0; order = order.Ack n }) ≡ false
+      → breaks (layoutOf (a .image)) (a .image) (linkOf st) (linkOf st .half) (part.To n) ≡ false
+      → Does answerOf (layoutOf (a .image)) a r q 0 (order.Ack n) st (showsEpc (layoutOf (a .image)) a (acknowledged st))
+  unfolding at
+  ack-to st q n e w b =
+      comes-to st q 0 (order.Ack n) _ w b (ap (λ (t : Bool). cond t _ (turns (r .flags) (fallen st))) (eq-eqb (linkOf st .handle) n e)) refl
+
+  not-to : (k : Link) (p : Half) (n : ℕ) → k .handle ≢ n → breaks (layoutOf (a .image)) (a .image) k p (part.To n) ≡ false
+  not-to k half.Nothing n d = refl
+  not-to k (half.Access up) n d = ne-eqb (k .handle) n d
+  not-to k (half.Kill up) n d = ne-eqb (k .handle) n d
+
+  ack-off : (st : State) (q : Round) (n k : ℕ) → Numbered st q n → k ≢ n → Does answerOf (layoutOf (a .image)) a r q 0 (order.Ack k) st (quiet (state.Arbitrate q 0))
+  unfolding at
+  ack-off st q n k (facts.reply p m) d = comes-to (state.Reply q n) q 0 (order.Ack k) (turns (r .flags) (state.Arbitrate q 0)) refl refl (ap (λ (t : Bool). cond t _ (turns (r .flags) (state.Arbitrate q 0))) (ne-eqb n k (λ e. d (sym e)))) refl
+  ack-off st q n k (facts.acknowledged p m) d = comes-to (state.Acknowledged q n) q 0 (order.Ack k) (turns (r .flags) (state.Arbitrate q 0)) refl refl (ap (λ (t : Bool). cond t _ (turns (r .flags) (state.Arbitrate q 0))) (ne-eqb n k (λ e. d (sym e)))) refl
+  ack-off st q n k (facts.opened l) d =
+      comes-to (state.Open l) q 0 (order.Ack k) (turns (r .flags) (state.Arbitrate q 0)) refl (not-to l (l .half) k (λ e. d (sym e))) (ap (λ (t : Bool). cond t _ (turns (r .flags) (state.Arbitrate q 0))) (ne-eqb n k (λ e. d (sym e)))) refl
+  ack-off st q n k (facts.secured l) d =
+      comes-to (state.Secured l) q 0 (order.Ack k) (turns (r .flags) (state.Arbitrate q 0)) refl (not-to l (l .half) k (λ e. d (sym e))) (ap (λ (t : Bool). cond t _ (turns (r .flags) (state.Arbitrate q 0))) (ne-eqb n k (λ e. d (sym e)))) refl
+
+  -- Select
+  select-to : (st : State) (q : Round) (c : Choice) (p : ℕ) (b : Bool) → st ≢ state.Killed → Takeable c
+      → selects (layoutOf (a .image)) (a .image) (a .frame) (c .bits) p ≡ b
+      → Turns answerOf (layoutOf (a .image)) a r q 0 (order.Select c p) st (selectedFlags (r .flags) c b) (quiet state.Ready)
+  unfolding at
+  select-to st q c p b k h e =
+      comes-to st q 0 (order.Select c p) (turns (selectedFlags (r .flags) c b) state.Ready) (rw (not-killed st k, taken-choice c h)) (between st q)
+      (ap (λ (t : Bool). turns (selectedFlags (r .flags) c t) state.Ready) e) refl
+
+  rounds : (q : Round) → Rounds answerOf (layoutOf (a .image)) a r q
+  rounds q =
+      record {
+        query-waits = λ st sel t p g k h m d. query-to st q sel t p g _ k h (joins-so sel t p g _ m (waits-so p _ d));
+        query-replies = λ st sel t p g k h m e. query-to st q sel t p g _ k h (joins-so sel t p g _ m (replies-so p _ e));
+        query-passes = λ st sel t p g k h m.
+            query-to st q sel t p g state.Ready k h
+            (ap (λ (b : Bool). cond b (drawn p (slotFrom p (a .fresh)) (a .fresh)) state.Ready) (matches-not g sel t (p .session) m));
+        adjust-waits = λ st slot u new x h d. adjust-to st q slot u new _ x h (waits-so _ _ d);
+        adjust-replies = λ st slot u new x h e. adjust-to st q slot u new _ x h (replies-so _ _ e);
+        rep-waits = λ st slot next x h d. rep-to st q slot next _ x h (waits-so q next d);
+        rep-replies = λ st slot x h. rep-to st q slot 0 _ x h (replies-so q 0 refl);
+        adjust-ends = λ st u new x h. adjust-left st q u new x h;
+        rep-ends = λ st x. rep-left st q x;
+        ack = λ n. ack-to (state.Reply q n) q n refl refl refl;
+        ack-again = λ n. ack-to (state.Acknowledged q n) q n refl refl refl;
+        ack-handle = elim [
+          | true ↦ λ h c. ack-to (state.Secured (link q h c half.Nothing)) q h refl refl refl
+          | false ↦ λ h c. ack-to (state.Open (link q h c half.Nothing)) q h refl refl refl
+        ];
+        ack-wrong = λ st n k x d. ack-off st q n k x d;
+        select-matching = λ st c p k h s. select-to st q c p true k h (selects-so _ _ _ (c .bits) p s);
+        select-other = λ st c p k h s. select-to st q c p false k h (selects-not _ _ _ (c .bits) p s);
+      }
 
 -- the port
 module _ (m : List ℕ) (st : State) (r : Aside) (idle : Idle (layoutOf m) m) where
@@ -422,7 +563,7 @@ demand-2 = record { terms = terms-so; start = started-so; radio = radio-at; call
     radio-at y a r q i =
         let e = layout y (a .image) i in
         let idle = subst (λ (z : Layout). Idle z (a .image)) e i in
-        subst (λ (z : Layout). Radio answerOf z a r q) (sym e) (radio a r q idle (rounds a r q idle))
+        subst (λ (z : Layout). Radio answerOf z a r q) (sym e) (radio a r q idle (rounds a r idle q))
 
     engine-at : (y : Layout) (m : List ℕ) (st : State) (r : Aside) → Idle y m → Transfers answerOf y m st r
     engine-at y m st r i = let e = layout y m i in subst (λ (z : Layout). Transfers answerOf z m st r) (sym e) (engine m st r (subst (λ (z : Layout). Idle z m) e i))

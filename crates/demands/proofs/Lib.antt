@@ -11,6 +11,7 @@ pub mod Images
 pub mod Terms
 pub mod Codes
 pub mod Tables
+pub mod Rounds
 pub mod Commands
 pub mod Short
 pub mod Refusals

@@ -69,6 +69,7 @@ use Rattle.demands.proofs.Codes.{or-right, and-false}
 use Rattle.demands.proofs.Commands.{needsSecured}
 use Rattle.demands.proofs.Short.{short as too-short}
 use Rattle.demands.proofs.Codes as codes
+use Rattle.demands.proofs.Rounds.{slotted-session, singled-session}
 use Rattle.demands.specs.Refusals.{stays, drops, errs, Covered, Addressed, Needs, Other, Waits, Brings, OutOfPlace, Dropped, Errors, Locks, NoImageRefused, BadCount, TransferRefused, PortRefused, Refusals}
 use Rattle.tag.specs.Steps.{input}
 
@@ -409,15 +410,6 @@ number-hears who.Linked rd m n d = refl
 number-hears who.Secured rd m n d = refl
 
 -- a round's session
-slotted-session : (st : State) (rd : Round) (slot k n : ℕ) → Slotted st rd slot → wide.hears (who.InSession k) st n ≡ eqb (rd .session) k
-slotted-session st rd slot k n (facts.arbitrate q s) = refl
-slotted-session st rd slot k n (facts.reply q s) = refl
-
-singled-session : (st : State) (rd : Round) (k n : ℕ) → Singled st rd → wide.hears (who.InSession k) st n ≡ eqb (rd .session) k
-singled-session st rd k n (facts.acknowledged q s) = refl
-singled-session st rd k n (facts.opened l) = refl
-singled-session st rd k n (facts.secured l) = refl
-
 session-hears : (st : State) (rd : Round) (k n : ℕ) → InRound st rd → k ≢ rd .session → wide.hears (who.InSession k) st n ≡ false
 session-hears st rd k n x d = is x ∙ ne-eqb (rd .session) k (λ e. d (sym e))
   where
