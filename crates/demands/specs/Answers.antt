@@ -7,11 +7,12 @@ use lib.ListN.{take, replicate}
 use Rattle.bits.specs.Words.{wordAt, withWord}
 use Rattle.bits.specs.Bits.{fieldAt, bitsOf, wordsBits}
 use Rattle.crc.specs.Crc.{crcOf}
+use Rattle.crc.specs.Crc5.{crc5Of}
 use Rattle.ebv.specs.Ebv.{pointerAt}
 use Rattle.image.specs.Layout.{layoutOf, headerGood, blocksIn}
 use Rattle.image.specs.Content.{rulesHold, contentGood}
 use Rattle.image.specs.Worked.{worked, pendingOne}
-use Rattle.frames.specs.Frames.{heardOf, checksumRight}
+use Rattle.frames.specs.Frames.{heardOf, checksumRight, checksum5Right}
 use Rattle.replies.specs.Pack.{filled, packed}
 use Rattle.replies.specs.Replies.{checked}
 use Rattle.rights.specs.Rights.{writeCode, lockedTo}
@@ -23,11 +24,11 @@ use Rattle.states.specs.declared.State.the-variants as state
 use Rattle.tag.specs.declared.Session.{Session}
 use Rattle.tag.specs.Session.{offSession, newSession}
 use Rattle.tag.specs.Power.{powerUpOf}
-use Rattle.tag.specs.Table.{frameOf, admitOf}
+use Rattle.tag.specs.Table.{frameOf}
 use Rattle.tag.specs.Port.{askOf, releaseOf, registerOf, readOf, writeOf}
-use Rattle.demands.specs.Calls.{Call, powerUp, admit, frame, ask, release, register, read, write, answerOf}
+use Rattle.demands.specs.Calls.{Call, powerUp, frame, ask, release, register, read, write, answerOf}
 use Rattle.demands.specs.Cases.{Case, p, Hold}
-use Rattle.demands.specs.Worked.{write3, write16, secured}
+use Rattle.demands.specs.Worked.{query0, write3, write16, round, secured}
 use Rattle.demands.specs.Ports.{holding, fourWords}
 use Rattle.demands.specs.Met.{kill2, access}
 
@@ -44,18 +45,21 @@ content = withWord worked 17 2
 abbrev pends : List ℕ
 pends = pendingOne 31 0xABCD
 
--- sessions: Arbitrate, holding the port, Killed, and Secured with a half waiting
-abbrev arbitrate : Session
-arbitrate = newSession state.Arbitrate
+-- sessions: Ready, holding the port, Arbitrate, Killed, and Secured with a half waiting
+abbrev ready : Session
+ready = newSession state.Ready
 
 abbrev held : Session
-held = holding state.Arbitrate false false
+held = holding state.Ready false false
+
+abbrev arbitrate : Session
+arbitrate = newSession (state.Arbitrate round 3)
 
 abbrev killed : Session
 killed = newSession state.Killed
 
 abbrev waiting : Half → Session
-waiting h = newSession (state.Secured (record { handle = 0x1234; cover = cover.Number 0x5A5A; half = h }))
+waiting h = newSession (state.Secured (record { round = round; handle = 0x1234; cover = cover.Number 0x5A5A; half = h }))
 
 -- a call's number, with a session and an image; the number alone where it has no image
 abbrev number : Session → List ℕ → Call → List ℕ
@@ -84,11 +88,11 @@ numbers =
     ∷ p 3 (number offSession content (powerUp 1)) (3 ∷ [])
     ∷ p 4 (number offSession worked (powerUp 0)) (11 ∷ [])
     ∷ p 5 (number offSession worked (powerUp 1)) (0 ∷ [])
-    -- admission
-    ∷ p 6 (alone offSession (admit 0xBEEF)) (5 ∷ [])
-    ∷ p 7 (alone held (admit 0xBEEF)) (6 ∷ [])
-    ∷ p 8 (alone secured (admit 0xBEEF)) (9 ∷ [])
-    ∷ p 9 (alone arbitrate (admit 0xBEEF)) (0 ∷ [])
+    -- a Query, the first frame that a new session hears
+    ∷ p 6 (number offSession worked (sending query0 22)) (5 ∷ [])
+    ∷ p 7 (number held worked (sending query0 22)) (6 ∷ [])
+    ∷ p 8 (number killed worked (sending query0 22)) (9 ∷ [])
+    ∷ p 9 (number ready worked (sending query0 22)) (0 ∷ [])
     -- frames, in the table's order
     ∷ p 10 (number secured short (writing 12 5)) (1 ∷ [])
     ∷ p 11 (number secured header (writing 12 5)) (2 ∷ [])
@@ -118,12 +122,12 @@ numbers =
     ∷ p 34 (alone offSession ask) (5 ∷ [])
     ∷ p 35 (alone held ask) (6 ∷ [])
     ∷ p 36 (alone secured ask) (6 ∷ [])
-    ∷ p 37 (alone arbitrate ask) (0 ∷ [])
+    ∷ p 37 (alone ready ask) (0 ∷ [])
     ∷ p 38 (alone offSession release) (5 ∷ [])
-    ∷ p 39 (alone arbitrate release) (6 ∷ [])
+    ∷ p 39 (alone ready release) (6 ∷ [])
     ∷ p 40 (alone held release) (0 ∷ [])
     ∷ p 41 (alone offSession register) (5 ∷ [])
-    ∷ p 42 (alone arbitrate register) (6 ∷ [])
+    ∷ p 42 (alone ready register) (6 ∷ [])
     ∷ p 43 (alone held register) (0 ∷ [])
     -- an SPI read
     ∷ p 44 (number held short (read 2 2 (replicate 4 0))) (1 ∷ [])
@@ -131,7 +135,7 @@ numbers =
     ∷ p 46 (number held content (read 2 2 (replicate 4 0))) (3 ∷ [])
     ∷ p 47 (number offSession worked (read 2 2 (replicate 4 0))) (5 ∷ [])
     ∷ p 48 (number held pends (read 2 2 (replicate 4 0))) (5 ∷ [])
-    ∷ p 49 (number arbitrate worked (read 2 2 (replicate 4 0))) (6 ∷ [])
+    ∷ p 49 (number ready worked (read 2 2 (replicate 4 0))) (6 ∷ [])
     ∷ p 50 (number held worked (read 2 0 (replicate 4 0))) (13 ∷ [])
     ∷ p 51 (number held worked (read 15 2 (replicate 4 0))) (13 ∷ [])
     ∷ p 52 (number held worked (read 2 2 (replicate 3 0))) (4 ∷ [])
@@ -142,7 +146,7 @@ numbers =
     ∷ p 56 (number held content (write 2 fourWords 14)) (3 ∷ [])
     ∷ p 57 (number offSession worked (write 2 fourWords 14)) (5 ∷ [])
     ∷ p 58 (number held pends (write 2 fourWords 14)) (5 ∷ [])
-    ∷ p 59 (number arbitrate worked (write 2 fourWords 14)) (6 ∷ [])
+    ∷ p 59 (number ready worked (write 2 fourWords 14)) (6 ∷ [])
     ∷ p 60 (number held worked (write 2 (0 ∷ []) 14)) (13 ∷ [])
     ∷ p 61 (number held worked (write 13 fourWords 14)) (13 ∷ [])
     ∷ p 62 (number held worked (write 0 (replicate 34 0) 99)) (13 ∷ [])
@@ -151,7 +155,7 @@ numbers =
     ∷ []
 
 pub all-numbers : Hold numbers
-unfolding numbers frameOf admitOf askOf releaseOf registerOf readOf writeOf powerUpOf powerStores layoutOf headerGood blocksIn contentGood rulesHold worked wordAt withWord wordsBits bitsOf crcOf fieldAt pointerAt heardOf checksumRight filled packed checked writeCode write3 write16 kill2 access
+unfolding numbers frameOf askOf releaseOf registerOf readOf writeOf powerUpOf powerStores layoutOf headerGood blocksIn contentGood rulesHold worked wordAt withWord wordsBits bitsOf crcOf fieldAt pointerAt heardOf checksumRight checksum5Right crc5Of filled packed checked writeCode query0 write3 write16 kill2 access
 all-numbers = (refl, (refl, (refl, (refl, (refl, (refl, (refl, (refl, (refl, (refl, (refl, (refl, (refl, (refl, (refl, (refl, (refl, (refl, (refl, (refl, (refl, (refl, (refl, (refl, (refl, (refl, (refl, (refl, (refl, (refl, (refl, (refl, (refl, (refl, (refl, (refl, (refl, (refl, (refl, (refl, (refl, (refl, (refl, (refl, (refl, (refl, (refl, (refl, (refl, (refl, (refl, (refl, (refl, (refl, (refl, (refl, (refl, (refl, (refl, (refl, (refl, (refl, (refl, (refl, (refl, tt)))))))))))))))))))))))))))))))))))))))))))))))))))))))))))))))))
 
 -- a Lock sets and clears masked bits and leaves the others

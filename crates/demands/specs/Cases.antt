@@ -75,7 +75,7 @@ abbrev p11 : Result
 p11 = sent locked lock11 60 5
 
 abbrev p12 : Result
-p12 = firstOf (writeOf changeStores (holding state.Arbitrate false false) blockLocked 2 fourWords 8)
+p12 = firstOf (writeOf changeStores (holding state.Ready false false) blockLocked 2 fourWords 8)
 
 pub table : List Case
 table =

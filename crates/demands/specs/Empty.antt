@@ -28,14 +28,14 @@ use Rattle.states.specs.declared.Link.{Link}
 use Rattle.states.specs.declared.State.the-variants as state
 use Rattle.replies.specs.declared.Reply.the-variants as reply
 use Rattle.tag.specs.declared.Session.{Session}
-use Rattle.tag.specs.Session.{offSession, on, clear}
+use Rattle.tag.specs.Session.{offSession, newFlags, clear}
 use Rattle.tag.specs.Result.{Result, firstOf}
 use Rattle.tag.specs.Power.{powerUpOf}
 use Rattle.tag.specs.Table.{Input, everything, effect, storesOf, frameOf}
-use Rattle.demands.specs.Calls.{powerUp, admit, frame, ask, release, register, read, write, Program, answerOf, torn}
+use Rattle.demands.specs.Calls.{powerUp, frame, ask, release, register, read, write, Aside, awake, Program, answerOf, torn}
 use Rattle.demands.specs.Demands.{Demand1, Demand3, Completes, lasting}
 use Rattle.demands.specs.Commands.{Demand2, answersTo, link, obeyed}
-use Rattle.demands.specs.Worked.{write3, readTwo}
+use Rattle.demands.specs.Worked.{write3, readTwo, round}
 use Rattle.demands.specs.Torn.{tag, p7}
 use Rattle.demands.specs.Met.{air, met}
 use Rattle.tag.specs.Steps.{input}
@@ -43,7 +43,6 @@ use Rattle.tag.specs.Steps.{input}
 -- a program that answers frames so, and every other call as the tag does
 abbrev pub framing : (Input → Result) → Program
 framing f t (powerUp s) = answerOf t (powerUp s)
-framing f t (admit n) = answerOf t (admit n)
 framing f t (frame b bits fresh room s) = f (input (t .session) (t .image) b bits fresh room s)
 framing f t ask = answerOf t ask
 framing f t release = answerOf t release
@@ -78,28 +77,32 @@ shamming = framing (λ i. withImage (after (i .image) (take (i .power) (effect i
 abbrev pub inventing : ℕ → Program
 inventing n = framing (λ i. withStores n (firstOf (frameOf changeStores i)))
 
+-- new flags, and the register clear
+abbrev pub fresh : Aside
+fresh = record { flags = newFlags; register = clear }
+
 -- what demand 2 says of P7's Write and of a Read of USER 2 and 3, both in Open, and what that is on the worked image
 abbrev pub linkIn : Link
-linkIn = link 0x1234 (cover.Number 0x5A5A) half.Nothing
+linkIn = link round 0x1234 (cover.Number 0x5A5A) half.Nothing
 
 abbrev pub opened : Session
-opened = on (state.Open linkIn) false clear
+opened = awake (state.Open linkIn) false fresh
 
 abbrev pub writes : Result
 writes =
-    obeyed workedLayout (air write3 66) clear
-    (record { state = state.Open (plainLink 0x1234); reply = reply.Success 0x1234; words = store 31 0xABCD ∷ [] })
+    obeyed workedLayout (air write3 66) fresh
+    (record { state = state.Open (plainLink round 0x1234); reply = reply.Success 0x1234; words = store 31 0xABCD ∷ [] })
 
 abbrev pub reads : Result
 reads =
-    obeyed workedLayout (air readTwo 58) clear
-    (record { state = state.Open (plainLink 0x1234); reply = reply.Words 30 2 0x1234; words = [] })
+    obeyed workedLayout (air readTwo 58) fresh
+    (record { state = state.Open (plainLink round 0x1234); reply = reply.Words 30 2 0x1234; words = [] })
 
 pub must-write : (A : Program) → Demand2 A → answersTo A (air write3 66) opened ≡ writes
-must-write A d = d .radio workedLayout (air write3 66) clear (met .idle) .write false 0x1234 0x5A5A 3 3 0xF197 (met .write-right) (met .write .0) (met .write .1)
+must-write A d = d .radio workedLayout (air write3 66) fresh round (met .idle) .write false 0x1234 0x5A5A 3 3 0xF197 (met .write-right) (met .write .0) (met .write .1)
 
 pub must-read : (A : Program) → Demand2 A → answersTo A (air readTwo 58) opened ≡ reads
-must-read A d = d .radio workedLayout (air readTwo 58) clear (met .idle) .read false 0x1234 (cover.Number 0x5A5A) 3 2 2 2 (met .read-right) (inl (lit≤ tt, refl)) (met .read .0) (met .read .1)
+must-read A d = d .radio workedLayout (air readTwo 58) fresh round (met .idle) .read false 0x1234 (cover.Number 0x5A5A) 3 2 2 2 (met .read-right) (inl (lit≤ tt, refl)) (met .read .0) (met .read .1)
 
 record Computed : Type 0 where
   written : getD (writes .room) 0 0 ≡ 0x09

@@ -33,18 +33,17 @@ use Rattle.states.specs.declared.Half.the-variants as half
 use Rattle.states.specs.declared.State.the-variants as state
 use Rattle.states.specs.declared.Link.{Link}
 use Rattle.tag.specs.declared.Session.{Session}
-use Rattle.tag.specs.Session.{on, clear}
 use Rattle.states.specs.Commands.{linkOf, withLink, isCovered}
 use Rattle.tag.specs.Result.{Result, firstOf}
 use Rattle.tag.specs.Table.{Input, liveOf, movedTo, frameOf}
 use Rattle.tag.specs.Port.{bitOf}
-use Rattle.demands.specs.Calls.{Program}
+use Rattle.demands.specs.Calls.{awake, Program}
 use Rattle.demands.specs.Commands.{Demand2, answersTo, link}
 use Rattle.demands.specs.Refusals.{Refusals}
-use Rattle.demands.specs.Worked.{write3}
+use Rattle.demands.specs.Worked.{write3, round}
 use Rattle.demands.specs.Answers.{badSum}
 use Rattle.demands.specs.Met.{air, met, access}
-use Rattle.demands.specs.Empty.{framing, opened, must-write}
+use Rattle.demands.specs.Empty.{framing, fresh, opened, must-write}
 use Rattle.tag.specs.Steps.{input}
 use Rattle.stores.specs.Stores.{changeStores}
 use Rattle.demands.specs.Terms.{sealed}
@@ -77,7 +76,7 @@ nineBeforeEight =
 
 -- takes the frame's number for its handle
 abbrev named : ℕ → Link → Link
-named n k = record { handle = n; cover = k .cover; half = k .half }
+named n k = record { round = k .round; handle = n; cover = k .cover; half = k .half }
 
 abbrev numberOr : ℕ → Message → ℕ
 numberOr n (heard.refused k) = n
@@ -99,19 +98,19 @@ keepsCover =
 -- another CRC-16, with another
 -- handle, and while the port is held
 abbrev waiting : Session
-waiting = on (state.Secured (link 0x1234 (cover.Number 0x5A5A) (half.Access 0x1111))) false clear
+waiting = awake (state.Secured (link round 0x1234 (cover.Number 0x5A5A) (half.Access 0x1111))) false fresh
 
 abbrev other : Session
-other = on (state.Open (link 0x4321 (cover.Number 0x5A5A) half.Nothing)) false clear
+other = awake (state.Open (link round 0x4321 (cover.Number 0x5A5A) half.Nothing)) false fresh
 
 abbrev arbitrate : Session
-arbitrate = on state.Arbitrate false clear
+arbitrate = awake (state.Arbitrate round 3) false fresh
 
 record Numbers : Type 0 where
   password : answersTo takesAnyPassword (air access 56) waiting .number ≡ 0
   handle : answersTo ignoresHandle (air write3 66) other .number ≡ 0
   checksum : answersTo ignoresChecksum (air badSum 66) opened .number ≡ 0
-  held : answersTo hearsWhileHeld (air write3 66) (on (state.Open (link 0x1234 (cover.Number 0x5A5A) half.Nothing)) true clear) .number ≡ 0
+  held : answersTo hearsWhileHeld (air write3 66) (awake (state.Open (link round 0x1234 (cover.Number 0x5A5A) half.Nothing)) true fresh) .number ≡ 0
   first : answersTo nineBeforeEight (air badSum 66) arbitrate .number ≡ 9
   wrong : heardOf badSum 66 ≡ heard.refused 8
 
@@ -123,9 +122,6 @@ numbers = record { password = refl; handle = refl; checksum = refl; held = refl;
 other-handle : _≢_ {A = ℕ} 0x1234 0x4321
 other-handle e = omega (arith, e)
 
-no-nak : order.Write (span 3 3 1) 0xF197 ≢ order.Nak
-no-nak e = let z : _≡_ {A = ℕ} 0 1 = cc in omega arith
-
 other-half : 0x1111 ≢ wordAt worked 20
 unfolding worked wordAt
 other-half e = omega (arith, e)
@@ -134,7 +130,7 @@ pub password-caught : Refusals takesAnyPassword → ⊥
 password-caught d =
     let z : _≡_ {A = ℕ} 0 12 =
     sym (numbers .password)
-    ∙ ap (λ (r : Result). r .number) (d .dropped workedLayout (air access 56) clear (met .idle) .access true 0x1234 0x5A5A 0x1111 0x5A5A (met .access-half .0) (inl other-half)) in
+    ∙ ap (λ (r : Result). r .number) (d .dropped workedLayout (air access 56) fresh round (met .idle) .access true 0x1234 0x5A5A 0x1111 0x5A5A (met .access-half .0) (inl other-half)) in
     omega arith
 
 pub handle-caught : Refusals ignoresHandle → ⊥
@@ -142,7 +138,7 @@ handle-caught d =
     let z : _≡_ {A = ℕ} 0 9 =
     sym (numbers .handle)
     ∙ ap (λ (r : Result). r .number)
-    (d .wrong workedLayout (air write3 66) clear (met .idle) .handle false 0x4321 (cover.Number 0x5A5A) half.Nothing 0x1234 (order.Write (span 3 3 1) 0xF197) (met .write .0) no-nak (inl other-handle)) in
+    (d .wrong workedLayout (air write3 66) fresh round (met .idle) .handle false 0x4321 (cover.Number 0x5A5A) half.Nothing 0x1234 (order.Write (span 3 3 1) 0xF197) (met .write .0) tt (inl other-handle)) in
     omega arith
 
 pub checksum-caught : Refusals ignoresChecksum → ⊥
@@ -150,21 +146,21 @@ checksum-caught d =
     let z : _≡_ {A = ℕ} 0 8 =
     sym (numbers .checksum)
     ∙ ap (λ (r : Result). r .number)
-    (d .unheard workedLayout (air badSum 66) (state.Open (link 0x1234 (cover.Number 0x5A5A) half.Nothing)) clear (met .idle) .checksum (numbers .wrong)) in
+    (d .unheard workedLayout (air badSum 66) (state.Open (link round 0x1234 (cover.Number 0x5A5A) half.Nothing)) fresh (met .idle) .checksum (numbers .wrong)) in
     omega arith
 
 pub held-caught : Refusals hearsWhileHeld → ⊥
 held-caught d =
     let z : _≡_ {A = ℕ} 0 6 =
     sym (numbers .held)
-    ∙ ap (λ (r : Result). r .number) (d .unready (air write3 66) .held workedLayout (state.Open (link 0x1234 (cover.Number 0x5A5A) half.Nothing)) clear (met .idle)) in
+    ∙ ap (λ (r : Result). r .number) (d .unready (air write3 66) .held workedLayout (state.Open (link round 0x1234 (cover.Number 0x5A5A) half.Nothing)) fresh (met .idle)) in
     omega arith
 
 pub order-caught : Refusals nineBeforeEight → ⊥
 order-caught d =
     let z : _≡_ {A = ℕ} 9 8 =
     sym (numbers .first)
-    ∙ ap (λ (r : Result). r .number) (d .unheard workedLayout (air badSum 66) state.Arbitrate clear (met .idle) .checksum (numbers .wrong)) in
+    ∙ ap (λ (r : Result). r .number) (d .unheard workedLayout (air badSum 66) (state.Arbitrate round 3) fresh (met .idle) .checksum (numbers .wrong)) in
     omega arith
 
 -- a session's cover number: there or not

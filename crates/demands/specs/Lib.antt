@@ -9,6 +9,7 @@ pub mod Worked
 pub mod Ports
 pub mod Wrong
 pub mod Cases
+pub mod Rounds
 pub mod Torn
 pub mod Met
 pub mod Empty

@@ -85,14 +85,14 @@ air f bits = record { image = worked; frame = f; bits = bits; fresh = 0x5678; ro
 -- it says the order, and its room and power do for the reply and the words
 abbrev Comes : List ℕ → ℕ → ℕ → Order → Reply → List Store → Type 0
 Comes f bits n o rp ws = Says (air f bits) n o
-    × Enough workedLayout (air f bits) (record { state = state.Arbitrate; reply = rp; words = ws })
+    × Enough workedLayout (air f bits) (record { state = state.Ready; reply = rp; words = ws })
 
 -- what a frame call may hand back for P7's Write
 abbrev outcome : Outcome
 outcome = record { answer = answer.Done; session = usedUp; reply = 33; stores = 5; value = 0 }
 
 abbrev holder : Tag
-holder = record { session = holding state.Arbitrate false false; image = worked }
+holder = record { session = holding state.Ready false false; image = worked }
 
 -- facts about each word or bit, from a computed test of all
 three : _≢_ {A = ℕ} 3 0

@@ -16,9 +16,11 @@ use Rattle.replies.specs.Pack.{filled, packed}
 use Rattle.replies.specs.Replies.{checked}
 use Rattle.rights.specs.Rights.{readCode, writeCode}
 use Rattle.stores.specs.Stores.{powerStores, changeStores}
+use Rattle.frames.specs.declared.Round.{Round}
 use Rattle.states.specs.declared.Cover.the-variants as cover
 use Rattle.states.specs.declared.Half.the-variants as half
 use Rattle.states.specs.declared.State.the-variants as state
+use Rattle.states.specs.Commands.{plainLink}
 use Rattle.tag.specs.declared.Session.{Session}
 use Rattle.tag.specs.Session.{offSession, newSession}
 use Rattle.tag.specs.Result.{Result, firstOf}
@@ -26,9 +28,13 @@ use Rattle.tag.specs.Power.{powerUpOf}
 use Rattle.tag.specs.Table.{frameOf}
 use Rattle.tag.specs.Steps.{input, gives}
 
--- Req_RN with the admission number BEEFh
+-- Req_RN with the number BEEFh
 unfoldable pub reqRn : List ℕ
 reqRn = 0xC1 ∷ 0xBE ∷ 0xEF ∷ 0x13 ∷ 0x67 ∷ []
+
+-- Query of session 2, target A, Q = 0
+unfoldable pub query0 : List ℕ
+query0 = 0x80 ∷ 0x20 ∷ 0x7C ∷ []
 
 -- Write ABCDh to USER 3, covered
 unfoldable pub write3 : List ℕ
@@ -70,12 +76,16 @@ block16 = 0xC7 ∷ 0xC0 ∷ 0x04 ∷ 0x00 ∷ 0x00 ∷ 0x00 ∷ 0x00 ∷ 0x40 �
 unfoldable pub block17 : List ℕ
 block17 = 0xC7 ∷ 0xC0 ∷ 0x04 ∷ 0x40 ∷ 0x00 ∷ 0x00 ∷ 0x00 ∷ 0x40 ∷ 0x00 ∷ 0x80 ∷ 0x00 ∷ 0xC0 ∷ 0x01 ∷ 0x00 ∷ 0x01 ∷ 0x40 ∷ 0x01 ∷ 0x80 ∷ 0x01 ∷ 0xC0 ∷ 0x02 ∷ 0x00 ∷ 0x02 ∷ 0x40 ∷ 0x02 ∷ 0x80 ∷ 0x02 ∷ 0xC0 ∷ 0x03 ∷ 0x00 ∷ 0x03 ∷ 0x40 ∷ 0x03 ∷ 0x80 ∷ 0x03 ∷ 0xC0 ∷ 0x04 ∷ 0x04 ∷ 0x8D ∷ 0x0E ∷ 0x72 ∷ 0xC0 ∷ []
 
+-- a round of session 2 with Q = 4
+abbrev pub round : Round
+round = record { session = 2; q = 4 }
+
 -- Secured, with the handle 1234h and the cover number 5A5Ah
 abbrev pub secured : Session
-secured = newSession (state.Secured (record { handle = 0x1234; cover = cover.Number 0x5A5A; half = half.Nothing }))
+secured = newSession (state.Secured (record { round = round; handle = 0x1234; cover = cover.Number 0x5A5A; half = half.Nothing }))
 
 abbrev pub usedUp : Session
-usedUp = newSession (state.Secured (record { handle = 0x1234; cover = cover.Nothing; half = half.Nothing }))
+usedUp = newSession (state.Secured (plainLink round 0x1234))
 
 -- a frame of n bits to that session, with a room of 12 bytes and power for s stores
 abbrev pub sent : List ℕ → List ℕ → ℕ → ℕ → Result
@@ -85,7 +95,7 @@ abbrev pub locked : List ℕ
 locked = withWord worked 16 0x0003
 
 pub record Powered : Type 0 where
-  pub idle : firstOf (powerUpOf worked 1) ≡ gives 0 (newSession state.Arbitrate) 0 1 worked []
+  pub idle : firstOf (powerUpOf worked 1) ≡ gives 0 (newSession state.Ready) 0 1 worked []
   pub no-power : firstOf (powerUpOf worked 0) ≡ gives 11 offSession 0 0 worked []
   pub pending-cut : firstOf (powerUpOf (pendingOne 17 1) 2) .number ≡ 11
   pub pending-killed : firstOf (powerUpOf (pendingOne 17 1) 3) .session ≡ newSession state.Killed
@@ -97,8 +107,8 @@ powered = record { idle = refl; no-power = refl; pending-cut = refl; pending-kil
 
 -- the handle, a write, a read, and what a cut and a small room do
 pub record Sent : Type 0 where
-  pub numbered : firstOf (frameOf changeStores (input (newSession (state.Acknowledged 0xBEEF)) worked reqRn 40 0x1234 (replicate 12 0xAA) 0)) .session ≡ usedUp
-  pub numbered-room : firstOf (frameOf changeStores (input (newSession (state.Acknowledged 0xBEEF)) worked reqRn 40 0x1234 (replicate 12 0xAA) 0)) .room ≡ 0x12 ∷ 0x34 ∷ 0xF1 ∷ 0x36 ∷ 0xAA ∷ 0xAA ∷ 0xAA ∷ 0xAA ∷ 0xAA ∷ 0xAA ∷ 0xAA ∷ 0xAA ∷ []
+  pub numbered : firstOf (frameOf changeStores (input (newSession (state.Acknowledged round 0xBEEF)) worked reqRn 40 0x1234 (replicate 12 0xAA) 0)) .session ≡ usedUp
+  pub numbered-room : firstOf (frameOf changeStores (input (newSession (state.Acknowledged round 0xBEEF)) worked reqRn 40 0x1234 (replicate 12 0xAA) 0)) .room ≡ 0x12 ∷ 0x34 ∷ 0xF1 ∷ 0x36 ∷ 0xAA ∷ 0xAA ∷ 0xAA ∷ 0xAA ∷ 0xAA ∷ 0xAA ∷ 0xAA ∷ 0xAA ∷ []
   pub written : sent worked write3 66 5 .number ≡ 0
   pub written-stores : sent worked write3 66 5 .stores ≡ 5
   pub written-session : sent worked write3 66 5 .session ≡ usedUp
@@ -131,7 +141,7 @@ limits = record { user-15 = refl; user-16 = refl; l-2 = refl; l-3 = refl; words-
 
 -- wrong answers that the promises rule out: a power-up that makes no store, a frame that is refused where it is done, and one whose
 -- stores are invented
-pub never-lazy : firstOf (powerUpOf worked 1) ≡ gives 0 (newSession state.Arbitrate) 0 0 worked [] → ⊥
+pub never-lazy : firstOf (powerUpOf worked 1) ≡ gives 0 (newSession state.Ready) 0 0 worked [] → ⊥
 never-lazy e =
     let z : _≡_ {A = ℕ} 1 0 = sym (ap (λ (r : Result). r .stores) (powered .idle)) ∙ ap (λ (r : Result). r .stores) e in
     omega arith

@@ -9,14 +9,16 @@ use lib.ListN.{replicate}
 use Rattle.bits.specs.Words.{wordAt, withWord}
 use Rattle.bits.specs.Bits.{fieldAt, bitsOf, wordsBits}
 use Rattle.crc.specs.Crc.{crcOf}
+use Rattle.crc.specs.Crc5.{crc5Of}
 use Rattle.ebv.specs.Ebv.{pointerAt}
 use Rattle.image.specs.Layout.{layoutOf, headerGood, blocksIn}
 use Rattle.image.specs.Content.{rulesHold, contentGood}
 use Rattle.image.specs.Worked.{worked, pendingOne}
-use Rattle.frames.specs.Frames.{heardOf, checksumRight}
+use Rattle.frames.specs.Frames.{heardOf, checksumRight, checksum5Right}
 use Rattle.replies.specs.Pack.{filled, packed}
 use Rattle.replies.specs.Replies.{checked}
 use Rattle.rights.specs.Rights.{writeCode}
+use Rattle.frames.specs.declared.Round.{Round}
 use Rattle.states.specs.declared.Cover.{Cover}
 use Rattle.states.specs.declared.Cover.the-variants as cover
 use Rattle.states.specs.declared.Half.the-variants as half
@@ -26,12 +28,12 @@ use Rattle.tag.specs.Session.{offSession, newSession}
 use Rattle.tag.specs.Result.{Result, firstOf, leaves}
 use Rattle.states.specs.Commands.{linkOf}
 use Rattle.tag.specs.Power.{powerUpOf}
-use Rattle.tag.specs.Table.{liveOf, frameOf, admitOf}
+use Rattle.tag.specs.Table.{liveOf, frameOf}
 use Rattle.tag.specs.Port.{bitOf, askOf, releaseOf, registerOf, readOf}
-use Rattle.demands.specs.Worked.{write3, write16, usedUp, sent, powered}
+use Rattle.demands.specs.Worked.{query0, write3, write16, round, usedUp, sent, powered}
 use Rattle.demands.specs.Ports.{holding, reads, registers}
 use Rattle.demands.specs.Met.{block2}
-use Rattle.tag.specs.Steps.{input}
+use Rattle.tag.specs.Steps.{input, gives}
 use Rattle.stores.specs.Stores.{changeStores}
 
 -- a session's port and its register's bit 1, as numbers
@@ -45,42 +47,49 @@ unwrittenIn s = bitOf (liveOf (s .power) .register .unwritten)
 pub power-lost : firstOf (powerUpOf worked 1) .number ≡ 11 → ⊥
 power-lost e = let z : _≡_ {A = ℕ} 0 11 = sym (ap (λ (r : Result). r .number) (powered .idle)) ∙ e in omega arith
 
-pub record Admits : Type 0 where
-  pub taken : firstOf (admitOf (newSession state.Arbitrate) 0x1234) ≡ leaves 0 (newSession (state.Acknowledged 0x1234)) [] []
-  pub again : firstOf (admitOf (newSession (state.Acknowledged 0x1234)) 0x5678) ≡ leaves 9 (newSession (state.Acknowledged 0x1234)) [] []
-  pub held : firstOf (admitOf (holding state.Arbitrate false false) 0x1234) ≡ leaves 6 (holding state.Arbitrate false false) [] []
-  pub off : firstOf (admitOf offSession 0x1234) ≡ leaves 5 offSession [] []
+-- a Query of session 2 with Q = 0, in a room of 2 bytes, brings the number 1234h
+abbrev asking : Session → Result
+asking s = firstOf (frameOf changeStores (input s worked query0 22 0x1234 (replicate 2 0xAA) 0))
 
-pub admits : Admits
-unfolding admitOf
-admits = record { taken = refl; again = refl; held = refl; off = refl }
+abbrev inS2 : Round
+inS2 = record { session = 2; q = 0 }
 
--- an admission while the port is held, and one that is refused in Arbitrate
-pub admit-held : firstOf (admitOf (holding state.Arbitrate false false) 0x1234) .number ≡ 0 → ⊥
-admit-held e = let z : _≡_ {A = ℕ} 6 0 = sym (ap (λ (r : Result). r .number) (admits .held)) ∙ e in omega arith
+pub record Asks : Type 0 where
+  pub taken : asking (newSession state.Ready) ≡ gives 0 (newSession (state.Reply inS2 0x1234)) 16 0 worked (0x12 ∷ 0x34 ∷ [])
+  pub killed : asking (newSession state.Killed) ≡ leaves 9 (newSession state.Killed) worked (0xAA ∷ 0xAA ∷ [])
+  pub held : asking (holding state.Ready false false) ≡ leaves 6 (holding state.Ready false false) worked (0xAA ∷ 0xAA ∷ [])
+  pub off : asking offSession ≡ leaves 5 offSession worked (0xAA ∷ 0xAA ∷ [])
 
-pub admit-refused : firstOf (admitOf (newSession state.Arbitrate) 0x1234) .number ≡ 9 → ⊥
-admit-refused e = let z : _≡_ {A = ℕ} 0 9 = sym (ap (λ (r : Result). r .number) (admits .taken)) ∙ e in omega arith
+pub asks : Asks
+unfolding frameOf layoutOf headerGood blocksIn contentGood rulesHold worked wordAt withWord bitsOf fieldAt heardOf checksum5Right crc5Of filled packed query0
+asks = record { taken = refl; killed = refl; held = refl; off = refl }
 
--- a port granted twice, and one refused in Arbitrate
-pub ask-twice : firstOf (askOf (holding state.Arbitrate true false)) .number ≡ 0 → ⊥
+-- a Query that is heard while the port is held, and one that is refused in Ready
+pub query-held : asking (holding state.Ready false false) .number ≡ 0 → ⊥
+query-held e = let z : _≡_ {A = ℕ} 6 0 = sym (ap (λ (r : Result). r .number) (asks .held)) ∙ e in omega arith
+
+pub query-refused : asking (newSession state.Ready) .number ≡ 9 → ⊥
+query-refused e = let z : _≡_ {A = ℕ} 0 9 = sym (ap (λ (r : Result). r .number) (asks .taken)) ∙ e in omega arith
+
+-- a port granted twice, and one refused in Ready
+pub ask-twice : firstOf (askOf (holding state.Ready true false)) .number ≡ 0 → ⊥
 ask-twice e = let z : _≡_ {A = ℕ} 6 0 = sym (ap (λ (r : Result). r .number) (registers .held)) ∙ e in omega arith
 
-pub ask-refused : firstOf (askOf (newSession state.Arbitrate)) .number ≡ 6 → ⊥
+pub ask-refused : firstOf (askOf (newSession state.Ready)) .number ≡ 6 → ⊥
 ask-refused e = let z : _≡_ {A = ℕ} 0 6 = sym (ap (λ (r : Result). r .number) (registers .granted)) ∙ e in omega arith
 
 -- a release that is refused to the holder, and one that keeps the port
-pub release-refused : firstOf (releaseOf (holding state.Arbitrate false false)) .number ≡ 6 → ⊥
+pub release-refused : firstOf (releaseOf (holding state.Ready false false)) .number ≡ 6 → ⊥
 release-refused e = let z : _≡_ {A = ℕ} 0 6 = sym (ap (λ (r : Result). r .number) (registers .released)) ∙ e in omega arith
 
-pub release-kept : firstOf (releaseOf (holding state.Arbitrate false false)) .session ≡ holding state.Arbitrate false false → ⊥
+pub release-kept : firstOf (releaseOf (holding state.Ready false false)) .session ≡ holding state.Ready false false → ⊥
 release-kept e = let z : _≡_ {A = ℕ} 0 1 = sym (ap (λ (r : Result). portIn (r .session)) (registers .released)) ∙ ap portIn e in omega arith
 
 -- a register that tells nothing, and one that stays set
-pub register-silent : firstOf (registerOf (holding state.Arbitrate true false)) .value ≡ 0 → ⊥
+pub register-silent : firstOf (registerOf (holding state.Ready true false)) .value ≡ 0 → ⊥
 register-silent e = let z : _≡_ {A = ℕ} 2 0 = sym (ap (λ (r : Result). r .value) (registers .once)) ∙ e in omega arith
 
-pub register-kept : firstOf (registerOf (holding state.Arbitrate true false)) .session ≡ holding state.Arbitrate true false → ⊥
+pub register-kept : firstOf (registerOf (holding state.Ready true false)) .session ≡ holding state.Ready true false → ⊥
 register-kept e = let z : _≡_ {A = ℕ} 0 1 = sym (ap (λ (r : Result). unwrittenIn (r .session)) (registers .once)) ∙ ap unwrittenIn e in omega arith
 
 -- a read that shows a word when Killed, and one that is done without its room
@@ -88,15 +97,15 @@ pub read-killed : firstOf (readOf (holding state.Killed false false) worked 2 2 
 unfolding wordAt
 read-killed e = let z : _≡_ {A = ℕ} 0 6 = sym (ap (λ (r : Result). wordAt (r .room) 0) (reads .killed)) ∙ ap (λ (b : List ℕ). wordAt b 0) e in omega arith
 
-pub read-short : firstOf (readOf (holding state.Arbitrate false false) worked 2 2 (replicate 3 0xFF)) .number ≡ 0 → ⊥
+pub read-short : firstOf (readOf (holding state.Ready false false) worked 2 2 (replicate 3 0xFF)) .number ≡ 0 → ⊥
 read-short e = let z : _≡_ {A = ℕ} 4 0 = sym (ap (λ (r : Result). r .number) (reads .no-room)) ∙ e in omega arith
 
 -- Write ABCDh to USER 3 while an upper half of Access waits; and to a tag whose port is held
 abbrev between : Cover → Result
-between c = firstOf (frameOf changeStores (input (newSession (state.Secured (record { handle = 0x1234; cover = c; half = half.Access 0 }))) worked write3 66 0 (replicate 12 0xAA) 5))
+between c = firstOf (frameOf changeStores (input (newSession (state.Secured (record { round = round; handle = 0x1234; cover = c; half = half.Access 0 }))) worked write3 66 0 (replicate 12 0xAA) 5))
 
 abbrev whileHeld : List ℕ → Result
-whileHeld m = firstOf (frameOf changeStores (input (holding state.Arbitrate false false) m write3 66 0 (replicate 12 0xAA) 5))
+whileHeld m = firstOf (frameOf changeStores (input (holding state.Ready false false) m write3 66 0 (replicate 12 0xAA) 5))
 
 pub record Frames : Type 0 where
   -- without a cover number it is 9, with one 12
@@ -125,7 +134,7 @@ held-first e = let z : _≡_ {A = ℕ} 5 6 = sym (frames .pending) ∙ e in omeg
 abbrev handleNo : Session → ℕ
 handleNo s = linkOf (liveOf (s .power) .state) .handle
 
-pub error-moves : sent worked write16 66 5 .session ≡ newSession state.Arbitrate → ⊥
+pub error-moves : sent worked write16 66 5 .session ≡ newSession (state.Arbitrate round 0) → ⊥
 error-moves e = let z : _≡_ {A = ℕ} 0x1234 0 = sym (ap handleNo (frames .error)) ∙ ap handleNo e in omega arith
 
 -- a BlockWrite that is done and leaves its second word as it was
