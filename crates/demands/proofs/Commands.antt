@@ -12,6 +12,7 @@ use borrow.Author.Tests.{eq-eqb, ne-eqb, le-ltb}
 use Rattle.bits.specs.Words.{wordAt, Store, store, after}
 use Rattle.image.specs.declared.Layout.{Layout}
 use Rattle.image.specs.Layout.{layoutOf, pairsIn}
+use Rattle.image.specs.Content.{lengthOf, pcWord}
 use Rattle.image.proofs.Answers.{check-good, check-0}
 use Rattle.frames.specs.declared.Round.{Round}
 use Rattle.frames.specs.declared.Choice.{Choice}
@@ -431,12 +432,22 @@ module _ (a : Air) (r : Aside) (idle : Idle (layoutOf (a .image)) (a .image)) wh
       go st q (facts.secured k) = refl
 
   -- ACK with the right number, and with another one
+  shown : State → Effect
+  shown st =
+      record {
+        code = code.Nothing;
+        flags = r .flags;
+        state = acknowledged st;
+        reply = reply.Epc (layoutOf (a .image) .epc .at + 1) (lengthOf (pcWord (layoutOf (a .image)) (a .image)) + 1);
+        words = [];
+      }
+
   ack-to : (st : State) (q : Round) (n : ℕ) → linkOf st .handle ≡ n → wrongCommand st (record { number = 0; order = order.Ack n }) ≡ false
       → breaks (layoutOf (a .image)) (a .image) (linkOf st) (linkOf st .half) (part.To n) ≡ false
       → Does answerOf (layoutOf (a .image)) a r q 0 (order.Ack n) st (showsEpc (layoutOf (a .image)) a (acknowledged st))
-  unfolding at
+  unfolding at shown
   ack-to st q n e w b =
-      comes-to st q 0 (order.Ack n) _ w b (ap (λ (t : Bool). cond t _ (turns (r .flags) (fallen st))) (eq-eqb (linkOf st .handle) n e)) refl
+      comes-to st q 0 (order.Ack n) (shown st) w b (ap (λ (t : Bool). cond t (shown st) (turns (r .flags) (fallen st))) (eq-eqb (linkOf st .handle) n e)) refl
 
   not-to : (k : Link) (p : Half) (n : ℕ) → k .handle ≢ n → breaks (layoutOf (a .image)) (a .image) k p (part.To n) ≡ false
   not-to k half.Nothing n d = refl
@@ -444,13 +455,13 @@ module _ (a : Air) (r : Aside) (idle : Idle (layoutOf (a .image)) (a .image)) wh
   not-to k (half.Kill up) n d = ne-eqb (k .handle) n d
 
   ack-off : (st : State) (q : Round) (n k : ℕ) → Numbered st q n → k ≢ n → Does answerOf (layoutOf (a .image)) a r q 0 (order.Ack k) st (quiet (state.Arbitrate q 0))
-  unfolding at
-  ack-off st q n k (facts.reply p m) d = comes-to (state.Reply q n) q 0 (order.Ack k) (turns (r .flags) (state.Arbitrate q 0)) refl refl (ap (λ (t : Bool). cond t _ (turns (r .flags) (state.Arbitrate q 0))) (ne-eqb n k (λ e. d (sym e)))) refl
-  ack-off st q n k (facts.acknowledged p m) d = comes-to (state.Acknowledged q n) q 0 (order.Ack k) (turns (r .flags) (state.Arbitrate q 0)) refl refl (ap (λ (t : Bool). cond t _ (turns (r .flags) (state.Arbitrate q 0))) (ne-eqb n k (λ e. d (sym e)))) refl
+  unfolding at shown
+  ack-off st q n k (facts.reply p m) d = comes-to (state.Reply q n) q 0 (order.Ack k) (turns (r .flags) (state.Arbitrate q 0)) refl refl (ap (λ (t : Bool). cond t (shown (state.Reply q n)) (turns (r .flags) (state.Arbitrate q 0))) (ne-eqb n k (λ e. d (sym e)))) refl
+  ack-off st q n k (facts.acknowledged p m) d = comes-to (state.Acknowledged q n) q 0 (order.Ack k) (turns (r .flags) (state.Arbitrate q 0)) refl refl (ap (λ (t : Bool). cond t (shown (state.Acknowledged q n)) (turns (r .flags) (state.Arbitrate q 0))) (ne-eqb n k (λ e. d (sym e)))) refl
   ack-off st q n k (facts.opened l) d =
-      comes-to (state.Open l) q 0 (order.Ack k) (turns (r .flags) (state.Arbitrate q 0)) refl (not-to l (l .half) k (λ e. d (sym e))) (ap (λ (t : Bool). cond t _ (turns (r .flags) (state.Arbitrate q 0))) (ne-eqb n k (λ e. d (sym e)))) refl
+      comes-to (state.Open l) q 0 (order.Ack k) (turns (r .flags) (state.Arbitrate q 0)) refl (not-to l (l .half) k (λ e. d (sym e))) (ap (λ (t : Bool). cond t (shown (state.Open l)) (turns (r .flags) (state.Arbitrate q 0))) (ne-eqb n k (λ e. d (sym e)))) refl
   ack-off st q n k (facts.secured l) d =
-      comes-to (state.Secured l) q 0 (order.Ack k) (turns (r .flags) (state.Arbitrate q 0)) refl (not-to l (l .half) k (λ e. d (sym e))) (ap (λ (t : Bool). cond t _ (turns (r .flags) (state.Arbitrate q 0))) (ne-eqb n k (λ e. d (sym e)))) refl
+      comes-to (state.Secured l) q 0 (order.Ack k) (turns (r .flags) (state.Arbitrate q 0)) refl (not-to l (l .half) k (λ e. d (sym e))) (ap (λ (t : Bool). cond t (shown (state.Secured l)) (turns (r .flags) (state.Arbitrate q 0))) (ne-eqb n k (λ e. d (sym e)))) refl
 
   -- Select
   select-to : (st : State) (q : Round) (c : Choice) (p : ℕ) (b : Bool) → st ≢ state.Killed → Takeable c
