@@ -24,7 +24,7 @@ use Rattle.states.specs.declared.Half.{Half}
 use Rattle.states.specs.declared.Half.the-variants as half
 use Rattle.states.specs.declared.State.{State}
 use Rattle.states.specs.declared.State.the-variants as state
-use Rattle.states.specs.Commands.{linkOf, isSecured, uncovered, zeroKill, withLink, used, halved, numbered, fallen}
+use Rattle.states.specs.Commands.{linkOf, isReply, isSecured, uncovered, zeroKill, withLink, used, halved, numbered, fallen}
 use Rattle.states.specs.Inventory.{queriedFlags, queried, leftFlags, adjusted, repeated, acknowledged, selects, selectedFlags}
 
 -- what a command finds: the layout and the image, the session's flags and state, the frame and the fresh word
@@ -56,13 +56,7 @@ handleIn c = linkOf (c .state) .handle
 
 -- 11.3 to 11.5: flags and state of a command to every tag; a tag that comes to Reply replies with its number, without a CRC
 abbrev pub drawnReply : State → Reply
-drawnReply state.Ready = reply.Silence
-drawnReply (state.Arbitrate q slot) = reply.Silence
-drawnReply (state.Reply q n) = reply.Drawn n
-drawnReply (state.Acknowledged q n) = reply.Silence
-drawnReply (state.Open k) = reply.Silence
-drawnReply (state.Secured k) = reply.Silence
-drawnReply state.Killed = reply.Silence
+drawnReply st = cond (isReply st) (reply.Drawn (linkOf st .handle)) reply.Silence
 
 abbrev pub turns : Flags → State → Effect
 turns f st = record { code = code.Nothing; flags = f; state = st; reply = drawnReply st; words = [] }

@@ -11,8 +11,6 @@ use Rattle.frames.specs.declared.Choice.{Choice}
 use Rattle.frames.specs.declared.Round.{Round}
 use Rattle.frames.specs.declared.Order.{Order}
 use Rattle.frames.specs.declared.Order.the-variants as order
-use Rattle.replies.specs.declared.Reply.{Reply}
-use Rattle.replies.specs.declared.Reply.the-variants as reply
 use Rattle.rights.specs.declared.Code.{Code}
 use Rattle.rights.specs.declared.Code.the-variants as code
 use Rattle.rights.specs.Rights.{spanWords, readCode, writeCode, lockedTo, lockCode, permaReadCode, permaCode}
@@ -25,8 +23,6 @@ use Rattle.states.specs.Commands.{linkOf, isSecured, uncovered, used, numbered,
 use Rattle.states.specs.Inventory.{queriedFlags, queried, leftFlags, adjusted, repeated, acknowledged, selects, selectedFlags}
 use Rattle.states.specs.Steps.{killCode, accessed, killed}
 use Rattle.plans.specs.Effects.{placeOf}
-use Rattle.plans.specs.declared.Drawn.{Drawn}
-use Rattle.plans.specs.declared.Drawn.the-variants as drawn
 use Rattle.plans.specs.declared.Plan.{Plan}
 use Rattle.plans.specs.declared.Plan.the-variants as plan
 
@@ -34,20 +30,6 @@ use Rattle.plans.specs.declared.Plan.the-variants as plan
 abbrev pub orError : Code → Plan → Plan
 orError code.Nothing p = p
 orError (code.Error e) p = plan.Error e
-
--- the number that a tag tells when it comes to a state, and the reply that tells it
-abbrev pub drawnIn : State → Drawn
-drawnIn state.Ready = drawn.Nothing
-drawnIn (state.Arbitrate q slot) = drawn.Nothing
-drawnIn (state.Reply q n) = drawn.Number n
-drawnIn (state.Acknowledged q n) = drawn.Nothing
-drawnIn (state.Open k) = drawn.Nothing
-drawnIn (state.Secured k) = drawn.Nothing
-drawnIn state.Killed = drawn.Nothing
-
-abbrev pub drawnBy : Drawn → Reply
-drawnBy drawn.Nothing = reply.Silence
-drawnBy (drawn.Number n) = reply.Drawn n
 
 -- ACK, by whether its number is right
 abbrev pub ackPlan : Layout → List ℕ → Flags → State → ℕ → Plan

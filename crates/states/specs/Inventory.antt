@@ -13,7 +13,7 @@ use Rattle.rights.specs.Rights.{bankOf}
 use Rattle.states.specs.declared.Flags.{Flags}
 use Rattle.states.specs.declared.State.{State}
 use Rattle.states.specs.declared.State.the-variants as state
-use Rattle.states.specs.Commands.{linkOf, slotOf, wasAcknowledged, used}
+use Rattle.states.specs.Commands.{linkOf, slotOf, isReply, wasAcknowledged, used}
 
 -- 11.2: the inventoried flags of S0 to S3, set where they are B; and flag 4, SL, set where it is asserted
 abbrev pub flagAt : Flags → ℕ → Bool
@@ -73,13 +73,7 @@ repeated st fresh = cond (wasAcknowledged st) state.Ready (drawn (linkOf st .rou
 
 -- 11.6: ACK with the right number: Reply becomes Acknowledged with it, the others stay; the cover number is used up
 abbrev pub acknowledged : State → State
-acknowledged state.Ready = state.Ready
-acknowledged (state.Arbitrate q slot) = state.Arbitrate q slot
-acknowledged (state.Reply q n) = state.Acknowledged q n
-acknowledged (state.Acknowledged q n) = state.Acknowledged q n
-acknowledged (state.Open k) = used (state.Open k)
-acknowledged (state.Secured k) = used (state.Secured k)
-acknowledged state.Killed = state.Killed
+acknowledged st = let k = linkOf st in cond (isReply st) (state.Acknowledged (k .round) (k .handle)) (used st)
 
 -- 11.4: Select: the mask, from bit p of the frame on, is the bank's bits from the pointer on, and none of it lies past the bank's end
 unfoldable pub selects : Layout → List ℕ → List ℕ → Span → ℕ → Bool

@@ -7,6 +7,7 @@ ghost use Rattle.states.specs.Inventory.{flagAt, withFlag, inverted as i
 ghost use Rattle.states.specs.Steps.{picked};
 use crate::Flags;
 use crate::State;
+use crate::is_reply;
 use crate::link_of;
 use crate::slot_of;
 use crate::used;
@@ -177,15 +178,12 @@ pub fn repeated(state: State, fresh: u16) -> State
 pub fn acknowledged(state: State) -> State
     ensures { λ r. ⌜ r ≡ acknowledgedOf state ⌝ }
 {
-    match state {
-        State::Ready => state,
-        State::Arbitrate(_, _) => state,
-        State::Reply(q, n) => State::Acknowledged(q, n),
-        State::Acknowledged(_, _) => state,
-        State::Open(_) => used(state),
-        State::Secured(_) => used(state),
-        State::Killed => state,
+    if is_reply(state) {
+        let k = link_of(state);
+        let round = k.round;
+        return State::Acknowledged(round, k.handle);
     }
+    used(state)
 }
 
 // A Select's mask, from bit `at` of the frame on, is the bank's bits.

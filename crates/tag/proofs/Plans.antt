@@ -282,17 +282,6 @@ module _ (l : Live) (y : Layout) (m f : List ℕ) (fresh : ℕ) (room : List ℕ
   access-performs h (half.Access up) = refl
   access-performs h (half.Kill up) = refl
 
-  -- a tag that comes to another state, with its number told in Reply
-  turn-performs : (st : State) (g : Flags) → perform (plan.Turn st g) ≡ (let x = turns g st in ends (x .code) x)
-  unfolding handle perform ends
-  turn-performs state.Ready g = refl
-  turn-performs (state.Arbitrate q slot) g = refl
-  turn-performs (state.Reply q n) g = refl
-  turn-performs (state.Acknowledged q n) g = refl
-  turn-performs (state.Open k) g = refl
-  turn-performs (state.Secured k) g = refl
-  turn-performs state.Killed g = refl
-
   ack-performs : (b : Bool) (p q : Plan) (x z : Effect) → perform p ≡ ends (x .code) x → perform q ≡ ends (z .code) z
       → perform (cond b p q) ≡ (let e = cond b x z in ends (e .code) e)
   ack-performs true p q x z a b = a
@@ -300,12 +289,12 @@ module _ (l : Live) (y : Layout) (m f : List ℕ) (fresh : ℕ) (room : List ℕ
 
   pub plan-performs : (o : Order) → performOf l (linkOf (l .state) .handle) y m f room s (planOf y m f fresh (l .flags) (l .state) o) ≡ orderOf l y m f fresh room s o
   unfolding handle perform ends
-  plan-performs (order.QueryRep k) = turn-performs (repeated (l .state) fresh) (leftFlags (l .flags) (l .state))
-  plan-performs (order.Ack n) = ack-performs (eqb (linkOf (l .state) .handle) n) _ _ _ _ refl (turn-performs (fallen (l .state)) (l .flags))
-  plan-performs (order.Query sel t r) = let g = queriedFlags (l .flags) (l .state) (r .session) in turn-performs (queried g sel t r fresh) g
-  plan-performs (order.QueryAdjust k u) = turn-performs (adjusted (l .state) u fresh) (leftFlags (l .flags) (l .state))
-  plan-performs (order.Select c p) = turn-performs state.Ready (selectedFlags (l .flags) c (selects y m f (c .bits) p))
-  plan-performs order.Nak = turn-performs (fallen (l .state)) (l .flags)
+  plan-performs (order.QueryRep k) = refl
+  plan-performs (order.Ack n) = ack-performs (eqb (linkOf (l .state) .handle) n) _ _ _ _ refl refl
+  plan-performs (order.Query sel t r) = refl
+  plan-performs (order.QueryAdjust k u) = refl
+  plan-performs (order.Select c p) = refl
+  plan-performs order.Nak = refl
   plan-performs order.ReqRn = refl
   plan-performs (order.Read p) = code-performs (readCode y m (isSecured (l .state)) p) _ _ refl
   plan-performs (order.Write p w) = code-performs (writeCode y m (isSecured (l .state)) p (uncovered (linkOf (l .state) .cover) w)) _ _ refl

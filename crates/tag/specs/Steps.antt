@@ -38,8 +38,7 @@ use Rattle.tag.specs.Session.{offSession, newSession}
 use Rattle.tag.specs.Result.{Result, leaves, lost, result}
 use Rattle.states.specs.Commands.{asksOf, linkOf, breaks, used, fallen}
 use Rattle.states.specs.Steps.{wrongCommand}
-use Rattle.plans.specs.Effects.{Scene, Effect, effectOf}
-use Rattle.plans.specs.Steps.{drawnIn, drawnBy}
+use Rattle.plans.specs.Effects.{Scene, Effect, drawnReply, effectOf}
 use Rattle.tag.specs.Table.{Input, fits, turnedTo, movedTo}
 
 -- an answer with its reply's length and the stores made
@@ -140,7 +139,7 @@ storedEnd l h w m room s st ss = doneEnd l w m room s (reply.Success h) (movedTo
 
 abbrev pub performOf : Live → ℕ → Layout → List ℕ → List ℕ → List ℕ → ℕ → Plan → Result
 performOf l h y m f room s (plan.Error e) = errorEnd l h m room (faultNumber e)
-performOf l h y m f room s (plan.Turn st g) = doneEnd l (y .work .at) m room s (drawnBy (drawnIn st)) (turnedTo l g st) []
+performOf l h y m f room s (plan.Turn st g) = doneEnd l (y .work .at) m room s (drawnReply st) (turnedTo l g st) []
 performOf l h y m f room s (plan.Epc st at k) = doneEnd l (y .work .at) m room s (reply.Epc at k) (movedTo l st) []
 performOf l h y m f room s (plan.Number st n) = doneEnd l (y .work .at) m room s (reply.Number n) (movedTo l st) []
 performOf l h y m f room s (plan.Words st at k) = doneEnd l (y .work .at) m room s (reply.Words at k h) (movedTo l st) []
