@@ -115,6 +115,19 @@ behind bits first i k v l e = ap (λ (r : List ℕ). withBytes k r i v) e ∙ sy
 pub alone : (n : ℕ) (room : List ℕ) → withBytes 2 room 0 n ≡ packed (bitsOf 16 n) room
 alone n room = behind [] room 0 2 n refl (sym (packed-none room))
 
+-- words of an image behind j of them: one, and four
+module _ (m : List ℕ) (from j : ℕ) (first : List ℕ) {room : List ℕ} (e : room ≡ packed (wordsBits m from j) first) where
+  more : (k n w : ℕ) → wordsBits m from (j + n) ≡ wordsBits m from j ++ bitsOf (8 * k) w → withBytes k room (2 * j) w ≡ packed (wordsBits m from (j + n)) first
+  more k n w f =
+      behind (wordsBits m from j) first (2 * j) k w (length-words m from j ∙ omega arith) e ∙ ap (λ (bs : List ℕ). packed bs first) (sym f)
+
+  pub word-behind : {w : ℕ} → w ≡ wordAt m (from + j) → withBytes 2 room (2 * j) w ≡ packed (wordsBits m from (j + 1)) first
+  unfolding wordsBits
+  word-behind {w = w} h = more 2 1 w (rw (add-one j, h))
+
+  pub four-behind : ((i : ℕ) → getD m i 0 < 256) → {w : ℕ} → w ≡ fieldAt m (16 * (from + j)) 64 → withBytes 8 room (2 * j) w ≡ packed (wordsBits m from (j + 4)) first
+  four-behind known {w = w} h = more 8 4 w (rw h (words-four m known from j))
+
 -- words of an image, and the CRC-16 of the bits that then stand in the room
 pub summed : (m : List ℕ) (from count : ℕ) (first : List ℕ) {room : List ℕ} → 2 * count ≤ length first → room ≡ packed (wordsBits m from count) first
     → withBytes 2 room (2 * count) (crcOf (bitsFrom room 0 (16 * count))) ≡ packed (checked (wordsBits m from count)) first

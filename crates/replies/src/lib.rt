@@ -1,7 +1,7 @@
 // Replies out: bits into a lent room, the first bit highest (RULES 3.9 to 3.11).
 ghost use mathlib.Core.Path.{_≡_};
 ghost use mathlib.Core.List.{[]};
-ghost use Prim.Native.Nat.{_+_, _-_, _*_, _%_, _≤_, _<_};
+ghost use Prim.Native.Nat.{_+_, _-_, _*_, _/_, _%_, _≤_, _<_};
 ghost use lib.ListN.{length, replicate};
 ghost use Rattle.bits.specs.Bits.{bitsOf};
 ghost use Rattle.crc.specs.Crc.{run};
@@ -166,12 +166,37 @@ pub fn put_plain(room: &mut [u8], image: &[u8], from: usize, count: usize)
     }
 }
 
+// As many times four words of the image as `count` has.
+fn put_fours(room: &mut [u8], image: &[u8], from: usize, count: usize)
+    requires { ⌜ (2 * (from + count) ≤ length (now image)) × (2 * count ≤ length (now room)) ⌝ }
+    ensures { λ _. ⌜ now (room .exit) ≡ packed (wordsBits (now (image .entry)) from (count / 4 * 4)) (now (room .entry)) ⌝ }
+{
+    let mut j: usize = 0;
+    while j + 4 <= count {
+        store_eight(room, 2 * j, bits::four_words(image, from + j));
+        j += 4;
+    }
+}
+
+// Packs words of the image as `put_plain` does, quicker where they are few.
+fn put_few(room: &mut [u8], image: &[u8], from: usize, count: usize)
+    requires { ⌜ (2 * (from + count) ≤ length (now image)) × (2 * count ≤ length (now room)) ⌝ }
+    ensures { λ _. ⌜ now (room .exit) ≡ packed (wordsBits (now (image .entry)) from count) (now (room .entry)) ⌝ }
+{
+    put_fours(room, image, from, count);
+    let mut j = count / 4 * 4;
+    while j < count {
+        store_two(room, 2 * j, from_word(bits::word_in(image, from + j)));
+        j += 1;
+    }
+}
+
 // Words of the image and the CRC-16 over them.
 pub fn put_epc(room: &mut [u8], image: &[u8], from: usize, count: usize)
     requires { ⌜ (2 * (from + count) ≤ length (now image)) × (2 * count + 2 ≤ length (now room)) ⌝ }
     ensures { λ _. ⌜ now (room .exit) ≡ packed (replyBits (now (image .entry)) (Reply.Epc from count)) (now (room .entry)) ⌝ }
 {
-    put_plain(room, image, from, count);
+    put_few(room, image, from, count);
     let sum = crc::crc16_words(room, count);
     store_two(room, 2 * count, from_word(sum));
 }

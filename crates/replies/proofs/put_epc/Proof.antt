@@ -10,7 +10,7 @@ returns : tie.Need-returns
 returns c =
     let a = c .before .before .before .before .before .before .before .before .before .before .before .before .before .args in
     rw (c .before .before .store-two .ensures, c .before .before .before .from-word .ensures .0, c .before .before .before .before .before .crc16-words .ensures)
-    (summed (now (a .image)) (a .from) (a .count) (now (a .room)) (omega arith) (c .before .before .before .before .before .before .before .before .before .put-plain .ensures))
+    (summed (now (a .image)) (a .from) (a .count) (now (a .room)) (omega arith) (c .before .before .before .before .before .before .before .before .before .put-few .ensures))
 
 pub put-epc-spec : {M : Type 1} → statement M
 put-epc-spec =
