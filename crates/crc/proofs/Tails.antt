@@ -13,7 +13,7 @@ use Rattle.bits.proofs.Bits.{bits-split}
 use Rattle.bits.proofs.Digits.{bits-join}
 use Rattle.bits.proofs.Fields.{field-lt, field-bits}
 use Rattle.crc.specs.Crc.{run}
-use Rattle.crc.proofs.Runs.{run-append}
+use Rattle.crc.proofs.Runs.{run-append, go-on}
 use Rattle.crc.proofs.Linear.{of16}
 use Rattle.crc.proofs.Steps.{Linear, both, then, right, cut, zero-linear, shifts, test, steps}
 
@@ -74,16 +74,13 @@ at-once k r w a b hr hw =
     ∙ ap (λ (x : ℕ). run 0 (bitsOf x (bitXor (r * 2 ^ j) w))) f
     ∙ ap (λ (x : ℕ). run 0 (bitsOf 64 (bitXor x w))) (sym (shl-exact 16 j 64 hr (omega arith)))
 
--- the bits behind the last whole 64, where they are at least 16
-pub tail-turn : (m : List ℕ) (n r : ℕ) {w x v s : ℕ} → 16 ≤ n % 64 → r < 65536 → x ≡ r → v ≡ fieldAt m (8 * (n / 64 * 8)) (n % 64)
-    → s ≡ run 0 (bitsOf 64 (bitXor (x * 2 ^ (n % 64 - 16) % 2 ^ 64) v)) → run r (bitsFrom m (64 * (n / 64)) (n - 64 * (n / 64))) ≡ w → s ≡ w
-tail-turn m n r a hr p q h e =
-    let k = n % 64 in
-    let i = 8 * (n / 64 * 8) in
-    let y : i ≡ 64 * (n / 64) = omega arith in
-    let z : k ≡ n - 64 * (n / 64) = omega arith in
+-- the last k bits, 16 to 64, behind those before byte `at`
+pub tail-turn : (m : List ℕ) (n at k f r : ℕ) {x v s : ℕ} → 8 * at + k ≡ n → 16 ≤ k → k ≤ 64 → r < 65536 → x ≡ r → v ≡ fieldAt m (8 * at) k
+    → s ≡ run 0 (bitsOf 64 (bitXor (x * 2 ^ (k - 16) % 2 ^ 64) v)) → r ≡ run f (bitsFrom m 0 (8 * at)) → s ≡ run f (bitsFrom m 0 n)
+tail-turn m n at k f r z a b hr p q h e =
     h
     ∙ ap₂ (λ (b c : ℕ). run 0 (bitsOf 64 (bitXor (b * 2 ^ (k - 16) % 2 ^ 64) c))) p q
-    ∙ sym (at-once k r (fieldAt m i k) a (omega arith) hr (field-lt m i k))
-    ∙ ap (run r) (field-bits m i k ∙ ap₂ (bitsFrom m) y z)
-    ∙ e
+    ∙ sym (at-once k r (fieldAt m (8 * at) k) a b hr (field-lt m (8 * at) k))
+    ∙ ap (run r) (field-bits m (8 * at) k)
+    ∙ go-on m f (8 * at) k e
+    ∙ ap (λ (y : ℕ). run f (bitsFrom m 0 y)) z

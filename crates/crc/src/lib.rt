@@ -89,14 +89,14 @@ fn tail(bytes: &[u8], at: usize, k: usize) -> u64
     (v << (k % 8)) + (widest(bytes[at + i]) >> (8 - k % 8))
 }
 
-// The register after as many times eight bytes as n bits have.
+// The register after n times eight bytes.
 fn eights(bytes: &[u8], n: usize) -> u16
-    requires { ⌜ n ≤ 8 * length (now bytes) ⌝ }
-    ensures { λ r. ⌜ run r (bitsFrom (now (bytes .entry)) (64 * (n / 64)) (n - 64 * (n / 64))) ≡ run 0xFFFF (bitsFrom (now (bytes .entry)) 0 n) ⌝ }
+    requires { ⌜ 8 * n ≤ length (now bytes) ⌝ }
+    ensures { λ r. ⌜ r ≡ run 0xFFFF (bitsFrom (now (bytes .entry)) 0 (64 * n)) ⌝ }
 {
     let mut r: u16 = 0xFFFF;
     let mut k: usize = 0;
-    while k < n / 64 {
+    while k < n {
         r = step64(r, bits::eight_bytes(bytes, 8 * k));
         k += 1;
     }
@@ -112,7 +112,7 @@ pub fn crc16(bytes: &[u8], n: usize) -> u16
     if n == 24 {
         return !step8(step16(0xFFFF, bits::word_in(bytes, 0)), bytes[2]);
     }
-    let mut r = eights(bytes, n);
+    let mut r = eights(bytes, n / 64);
     let k = n % 64;
     if k >= 16 {
         return !rest(wider(r) << (k - 16) ^ tail(bytes, n / 64 * 8, k));
@@ -123,6 +123,19 @@ pub fn crc16(bytes: &[u8], n: usize) -> u16
         i += 1;
     }
     !r
+}
+
+// The CRC-16 of the first n words.
+pub fn crc16_words(bytes: &[u8], n: usize) -> u16
+    requires { ⌜ 2 * n ≤ length (now bytes) ⌝ }
+    ensures { λ r. ⌜ r ≡ crcOf (bitsFrom (now (bytes .entry)) 0 (16 * n)) ⌝ }
+{
+    let r = eights(bytes, n / 4);
+    let k = n % 4 * 16;
+    if k == 0 {
+        return !r;
+    }
+    !rest(wider(r) << (k - 16) ^ tail(bytes, n / 4 * 8, k))
 }
 
 // The CRC-5 of the first 17 bits, with 0 for those past the end. The preset stands at their front; q is the quotient, made by four sparse factors.

@@ -1,6 +1,6 @@
 -- What a caller may use of a packed room, and how long replies are. Assumes nothing.
 use Prim.Native.Nat.{ℕ, zero, suc, _+_, _-_, _*_, _/_, _%_, _^_, _<_, _≤_}
-use mathlib.Core.Path.{_≡_, refl, sym, ap, _∙_}
+use mathlib.Core.Path.{_≡_, refl, sym, ap, ap₂, _∙_}
 use mathlib.Core.List.{List, [], _∷_, _++_}
 use native.Mathlib.Nat.{add-comm, mul-assoc, zero-div, add-mul-div-right, pow-suc}
 use native.Mathlib.Omega.{arith}
@@ -9,7 +9,7 @@ use lib.ListN.{length, getD, drop, length-append, length-drop}
 use lib.Seq.{getD-drop}
 use lib.Pow.{pow-pos, pow-add, high}
 use Rattle.bits.specs.Words.{wordAt}
-use Rattle.bits.specs.Bits.{bitsOf, bitAt}
+use Rattle.bits.specs.Bits.{bitsOf, bitAt, bitsFrom}
 use Rattle.bits.proofs.Bits.{length-bits}
 use Rattle.bits.proofs.Digits.{Bits, bits-of, bits-and, bits-drop, bit-above}
 use Rattle.crc.specs.Crc.{crcOf}
@@ -121,6 +121,19 @@ shown (b ∷ bs) (x ∷ room) i h s r =
         let n : i ≡ suc (7 + (i - 8)) = omega arith in
         let t : getD (drop 7 bs) (i - 8) 0 ≡ getD (b ∷ bs) i 0 = getD-drop 7 bs (i - 8) 0 ∙ sym (ap (λ (k : ℕ). getD (b ∷ bs) k 0) n) in
         rw (q, m) (again (omega arith) ∙ t)
+
+-- the bits that a room has from bit i on, by what it shows of each
+read-back : (bs room : List ℕ) (i : ℕ) → ((k : ℕ) → k < length bs → bitAt room (i + k) ≡ getD bs k 0) → bitsFrom room i (length bs) ≡ bs
+read-back [] room i h = refl
+read-back (b ∷ bs) room i h =
+    let z : i + 0 ≡ i = omega arith in
+    ap₂ _∷_ (ap (bitAt room) (sym z) ∙ h 0 (omega arith))
+    (read-back bs room (i + 1) (λ k l. (let e : i + 1 + k ≡ i + suc k = omega arith in rw e (h (suc k) (omega arith)))))
+
+-- bits that fit their room can be read back from it
+pub all-shown : (bs room : List ℕ) → Bits bs → length bs ≤ 8 * length room → bitsFrom (packed bs room) 0 (length bs) ≡ bs
+all-shown bs room h f =
+    read-back bs (packed bs room) 0 (λ k l. (let z : 0 + k ≡ k = omega arith in rw z (shown bs room k h (omega arith) (omega arith))))
 
 -- what the room shows of a reply that fits it: its bits, then zeros to the end of the byte
 pub reply-shown : (m room : List ℕ) (r : Reply) (i : ℕ) → replyBytes r ≤ length room → i < 8 * replyBytes r

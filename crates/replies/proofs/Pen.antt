@@ -1,12 +1,12 @@
 -- Bits written one bit late, with the CRC-16's register beside them. Assumes nothing.
-use Prim.Native.Nat.{ℕ, suc, _+_, _-_, _*_, _/_, _%_, _^_, _<_}
+use Prim.Native.Nat.{ℕ, suc, _+_, _-_, _*_, _/_, _%_, _^_, _<_, _≤_}
 use mathlib.Core.Path.{_≡_, refl, sym, ap, ap₂, _∙_}
 use mathlib.Core.List.{List, [], _∷_, _++_, append-assoc}
 use native.Mathlib.Numerals.{add-one}
 use native.Mathlib.Omega.{arith}
 use lib.ListN.{length, getD, set, length-append}
 use Rattle.bits.specs.Words.{wordAt}
-use Rattle.bits.specs.Bits.{bitsOf, fieldAt}
+use Rattle.bits.specs.Bits.{bitsOf, bitsFrom, fieldAt}
 use Rattle.bits.proofs.Bits.{length-bits}
 use Rattle.bits.proofs.Digits.{bits-join, bits-late}
 use Rattle.crc.specs.Crc.{run, crcOf}
@@ -14,9 +14,9 @@ use Rattle.crc.proofs.Runs.{run-append}
 use Rattle.replies.specs.Pack.{filled, packed}
 use Rattle.replies.specs.Replies.{checked}
 use Rattle.bits.specs.Bits.{wordsBits}
-use Rattle.replies.specs.Steps.{withBytes, late, ended, Seen}
+use Rattle.replies.specs.Steps.{withBytes, late, ended}
 use Rattle.bits.proofs.Fields.{field-lt, words-four}
-use Rattle.replies.proofs.Laws.{packed-none, length-words}
+use Rattle.replies.proofs.Laws.{packed-none, length-words, bits-words, all-shown}
 use Rattle.replies.proofs.Packing.{next, next-bytes}
 
 -- the bits so far: all but the last, which is that of `before`, fill the i first bytes of the room; the register has seen them all
@@ -115,31 +115,25 @@ behind bits first i k v l e = ap (λ (r : List ℕ). withBytes k r i v) e ∙ sy
 pub alone : (n : ℕ) (room : List ℕ) → withBytes 2 room 0 n ≡ packed (bitsOf 16 n) room
 alone n room = behind [] room 0 2 n refl (sym (packed-none room))
 
-module _ (m : List ℕ) (from j : ℕ) {first room : List ℕ} {r : ℕ} (p : Seen m from j first room r) where
-  full : length (wordsBits m from j) ≡ 8 * (2 * j)
-  full = length-words m from j ∙ omega arith
+-- words of an image behind j of them: one, and four
+module _ (m : List ℕ) (from j : ℕ) (first : List ℕ) {room : List ℕ} (e : room ≡ packed (wordsBits m from j) first) where
+  more : (k n w : ℕ) → wordsBits m from (j + n) ≡ wordsBits m from j ++ bitsOf (8 * k) w → withBytes k room (2 * j) w ≡ packed (wordsBits m from (j + n)) first
+  more k n w f =
+      behind (wordsBits m from j) first (2 * j) k w (length-words m from j ∙ omega arith) e ∙ ap (λ (bs : List ℕ). packed bs first) (sym f)
 
-  -- words more that are one number
-  more : (k n w : ℕ) {s : ℕ} → wordsBits m from (j + n) ≡ wordsBits m from j ++ bitsOf (8 * k) w → s ≡ run r (bitsOf (8 * k) w)
-      → Seen m from (j + n) first (withBytes k room (2 * j) w) s
-  more k n w e q =
-      record {
-        stands = behind (wordsBits m from j) first (2 * j) k w full (p .stands) ∙ ap (λ (bs : List ℕ). packed bs first) (sym e);
-        seen =
-            q
-            ∙ ap (λ (x : ℕ). run x (bitsOf (8 * k) w)) (p .seen)
-            ∙ sym (ap (run 0xFFFF) e ∙ run-append 0xFFFF (wordsBits m from j) (bitsOf (8 * k) w));
-      }
-
-  pub seen-one : {w s : ℕ} → w ≡ wordAt m (from + j) → s ≡ run r (bitsOf 16 w) → Seen m from (j + 1) first (withBytes 2 room (2 * j) w) s
+  pub word-behind : {w : ℕ} → w ≡ wordAt m (from + j) → withBytes 2 room (2 * j) w ≡ packed (wordsBits m from (j + 1)) first
   unfolding wordsBits
-  seen-one {w = w} e q = more 2 1 w (rw (add-one j, e)) q
+  word-behind {w = w} h = more 2 1 w (rw (add-one j, h))
 
-  pub seen-four : ((i : ℕ) → getD m i 0 < 256) → {w s : ℕ} → w ≡ fieldAt m (16 * (from + j)) 64 → s ≡ run r (bitsOf 64 w)
-      → Seen m from (j + 4) first (withBytes 8 room (2 * j) w) s
-  seen-four known {w = w} e q = more 8 4 w (rw e (words-four m known from j)) q
+  pub four-behind : ((i : ℕ) → getD m i 0 < 256) → {w : ℕ} → w ≡ fieldAt m (16 * (from + j)) 64 → withBytes 8 room (2 * j) w ≡ packed (wordsBits m from (j + 4)) first
+  four-behind known {w = w} h = more 8 4 w (rw h (words-four m known from j))
 
-  -- the CRC-16 behind them
-  pub seen-all : withBytes 2 room (2 * j) (65535 - r) ≡ packed (checked (wordsBits m from j)) first
-  unfolding checked crcOf
-  seen-all = rw (p .seen) (behind (wordsBits m from j) first (2 * j) 2 (65535 - run 0xFFFF (wordsBits m from j)) full (p .stands))
+-- words of an image, and the CRC-16 of the bits that then stand in the room
+pub summed : (m : List ℕ) (from count : ℕ) (first : List ℕ) {room : List ℕ} → 2 * count ≤ length first → room ≡ packed (wordsBits m from count) first
+    → withBytes 2 room (2 * count) (crcOf (bitsFrom room 0 (16 * count))) ≡ packed (checked (wordsBits m from count)) first
+unfolding checked
+summed m from count first h e =
+    let bs = wordsBits m from count in
+    let l = length-words m from count in
+    let stand : bitsFrom (packed bs first) 0 (16 * count) ≡ bs = ap (bitsFrom (packed bs first) 0) (sym l) ∙ all-shown bs first (bits-words m from count) (omega arith) in
+    behind bs first (2 * count) 2 _ (l ∙ omega arith) e ∙ ap (λ (cs : List ℕ). packed (bs ++ bitsOf 16 (crcOf cs)) first) (ap (λ (r : List ℕ). bitsFrom r 0 (16 * count)) e ∙ stand)

@@ -1,12 +1,8 @@
 -- What the code makes on the way: bytes of numbers, numbers one bit late. Assumes nothing.
 use Prim.Native.Nat.{ℕ, zero, suc, _+_, _*_, _/_, _%_, _^_}
-use mathlib.Core.Path.{_≡_}
 use mathlib.Core.List.{List}
 use lib.ListN.{set}
-use Rattle.bits.specs.Bits.{wordsBits}
-use Rattle.crc.specs.Crc.{run}
 use Rattle.replies.specs.declared.Reply.{Reply}
-use Rattle.replies.specs.Pack.{packed}
 use Rattle.replies.specs.Replies.{replyLength}
 
 -- the bytes that a reply takes
@@ -25,8 +21,3 @@ late n before w = before % 2 * 2 ^ n + w / 2
 -- a room with a handle and a CRC-16 one bit late from byte i on, and the bit that is left
 unfoldable pub ended : List ℕ → ℕ → ℕ → ℕ → ℕ → List ℕ
 ended room i before handle sum = set (withBytes 4 room i (late 31 before (handle * 65536 + sum))) (i + 4) (sum % 2 * 128)
-
--- j words of m stand in a room that was `first`, and a register has seen them
-pub record Seen (m : List ℕ) (from j : ℕ) (first room : List ℕ) (register : ℕ) : Type 0 where
-  pub stands : room ≡ packed (wordsBits m from j) first
-  pub seen : register ≡ run 0xFFFF (wordsBits m from j)

@@ -1,34 +1,33 @@
--- `crc::eights` meets its contract. Invariant: the register, run over the bits that are left, gives what the preset gives over all bits. Assumes nothing.
-use Prim.Native.Nat.{_-_, _/_, _*_, _≤_}
-use mathlib.Core.Path.{_≡_}
+-- `crc::eights` meets its contract. Invariant: the register has seen the first k times eight bytes. Assumes nothing.
+use Prim.Native.Nat.{_-_, _*_, _≤_}
+use mathlib.Core.Path.{_≡_, refl}
 use native.Mathlib.Omega.{arith}
-use native.Mathlib.Nat.{sub-zero}
 use denote.Ref.{now}
 use borrow.Author.Needs.{needs}
 use Rattle.bits.specs.Bits.{bitsFrom}
 use Rattle.crc.specs.Crc.{run}
-use Rattle.crc.proofs.Runs.{eight-turn}
+use Rattle.crc.proofs.Runs.{eight-more}
 use Rattle.crc.proofs.eights.Statement.{statement}
 use Rattle.crc.proofs.eights.Tie as tie
 
 abbrev Inv-loop : tie.InvT-loop
-Inv-loop bytes n r₀ k₀ r k = (k ≤ n / 64) × (run r (bitsFrom bytes (64 * k) (n - 64 * k)) ≡ run 0xFFFF (bitsFrom bytes 0 n))
+Inv-loop bytes n r₀ k₀ r k = (k ≤ n) × (r ≡ run 0xFFFF (bitsFrom bytes 0 (64 * k)))
 
 abbrev μ-loop : tie.MeasureT-loop
-μ-loop bytes n r₀ k₀ r k = n / 64 - k
+μ-loop bytes n r₀ k₀ r k = n - k
 
 loop-holds : tie.Need-loop-holds Inv-loop μ-loop
-loop-holds c = (omega arith, rw sub-zero)
+loop-holds c = (omega arith, refl)
 
 loop-again : tie.Need-loop-again Inv-loop μ-loop
 loop-again c =
     let a = c .before .before .before .before .before .args in
     let l = c .before .before .before .loop in
-    (omega arith, eight-turn (now (a .bytes)) (a .n) (l .r) (l .k) (c .before .before .loop-test .taken) (c .before .eight-bytes .ensures) (c .step64 .ensures) (l .inv .1))
+    (omega arith, eight-more (now (a .bytes)) 0xFFFF (l .k) (c .before .eight-bytes .ensures) (c .step64 .ensures) (l .inv .1))
 
 returns : tie.Need-returns Inv-loop μ-loop
 returns c =
-    let e : c .before .loop .k ≡ c .before .before .before .args .n / 64 = omega arith in
+    let e : c .before .loop .k ≡ c .before .before .before .args .n = omega arith in
     rw e at (c .before .loop .inv .1)
 
 pub eights-spec : {M : Type 1} → statement M
