@@ -22,11 +22,11 @@
       6 the port is held, or not held when needed, or not granted       everything stays
       7 unknown code, length or pointer wrong                           everything stays
       8 CRC-16 or CRC-5 wrong                                           everything stays
-      9 wrong number or state, no cover number, zero range or RFU, a set truncate bit, or a command that the state ignores
-                                                                        everything stays
+      9 wrong number or state, no cover number, zero range or RFU, another session than the round's, an UpDn that is none, a Select of no
+        flag or no bank or with a set truncate bit                      everything stays
      10 an error reply was given                                        the image stays; the cover number is used up
      11 the power was lost                                              the first stores were made; Off; no reply
-     12 password wrong or halves broken                                 the image stays; Arbitrate; no reply
+     12 password wrong or halves broken                                 the image and the flags stay; Arbitrate; no reply
      13 SPI count 0 or over 255, odd data, past USER's end, or a write of more words than a change may have
                                                                         everything stays */
 #ifndef SWELLBINNACLE_H
@@ -42,7 +42,8 @@ enum { TAG_OFF, TAG_READY, TAG_ARBITRATE, TAG_REPLY, TAG_ACKNOWLEDGED, TAG_OPEN,
 enum { TAG_NO_HALF, TAG_ACCESS_HALF, TAG_KILL_HALF };
 
 /* A session. Keep it from one call to the next; all fields 0 is Off. A record that no session is written as, as with an unknown state or a
-   number where none belongs, is answered as Off. The byte of padding after `sl` means nothing. */
+   number where none belongs, is answered as Off. A round above 3, a Q above 15 or a slot above 7FFFh comes from no power-up and no frame; a
+   record with one is answered like any other (RULES 10.3, 11.2). The byte of padding after `sl` means nothing. */
 struct tag_session {
     uint8_t state;     /* TAG_OFF .. */
     uint8_t held;      /* 1: the port is held */

@@ -5,15 +5,15 @@ import os
 import re
 
 CRATES = os.path.join(os.path.dirname(os.path.abspath(__file__)), "..", "crates")
-FILES = """bits/Words bits/Bits bits/Below bits/First crc/Crc image/Layout image/Content image/Check ebv/Ebv frames/Message
-frames/Frames replies/Replies replies/Pack stores/Stores rights/Rights states/Commands plans/Effects tag/Session tag/Result tag/Table
-tag/Port tag/Power""".split()
+FILES = """bits/Words bits/Bits bits/Below bits/First crc/Crc crc/Crc5 image/Layout image/Content image/Check ebv/Ebv frames/Message
+frames/Frames replies/Replies replies/Pack stores/Stores rights/Rights states/Commands states/Inventory plans/Effects tag/Session
+tag/Result tag/Table tag/Port tag/Power""".split()
 PROMISED = {
     "image/Check": "checkOf meaning",
     "stores/Stores": "changeStores",
     "tag/Session": "numberOf",
     "tag/Result": "result firstOf",
-    "tag/Table": "frameOf admitOf",
+    "tag/Table": "frameOf",
     "tag/Port": "askOf releaseOf registerOf readOf writeOf",
     "tag/Power": "powerUpOf",
 }
