@@ -1,5 +1,5 @@
 -- Nothing vacuous: the hypotheses of each demand are met on the worked image, computed (RULES 7.4). Assumes nothing.
-use Prim.Native.Nat.{ℕ, _+_, _/_, _≤_, _<_}
+use Prim.Native.Nat.{ℕ, _+_, _*_, _/_, _%_, _^_, _≤_, _<_}
 use mathlib.Core.Path.{_≡_, refl, sym, ap, _∙_}
 use mathlib.Core.Logic.{_≢_, inl, inr, ⊎-elim}
 use mathlib.Core.Bool.{false≢true, true, false, not, _||_}
@@ -14,14 +14,17 @@ use Rattle.bits.specs.Below.{below, every}
 use Rattle.bits.proofs.Below.{every-at, or-cases}
 use Rattle.bits.proofs.Words.{are-bytes}
 use Rattle.crc.specs.Crc.{crcOf}
+use Rattle.crc.specs.Crc5.{crc5Of}
 use Rattle.ebv.specs.Ebv.{pointerAt}
 use Rattle.image.specs.Layout.{layoutOf, headerGood, blocksIn}
 use Rattle.image.specs.Content.{lockWord, permalock, rulesHold, contentGood}
 use Rattle.image.specs.Check.{checkOf}
 use Rattle.image.specs.Worked.{worked, workedLayout}
+use Rattle.frames.specs.declared.Round.{Round}
+use Rattle.frames.specs.declared.Choice.{Choice}
 use Rattle.frames.specs.declared.Order.{Order}
 use Rattle.frames.specs.declared.Order.the-variants as order
-use Rattle.frames.specs.Frames.{span, heardOf, checksumRight}
+use Rattle.frames.specs.Frames.{span, heardOf, checksumRight, checksum5Right}
 use Rattle.replies.specs.declared.Reply.{Reply}
 use Rattle.replies.specs.declared.Reply.the-variants as reply
 use Rattle.replies.specs.Pack.{filled, packed}
@@ -30,17 +33,22 @@ use Rattle.rights.specs.Rights.{pwdBit, permaBit, readCode, writeCode, lockedTo
 use Rattle.stores.specs.Stores.{powerStores}
 use Rattle.stores.specs.Worked.{worked-bytes}
 use Rattle.tag.specs.declared.Answer.the-variants as answer
+use Rattle.states.specs.declared.Flags.{Flags}
+use Rattle.states.specs.declared.State.{State}
 use Rattle.states.specs.declared.State.the-variants as state
 use Rattle.tag.specs.declared.Outcome.{Outcome}
-use Rattle.states.specs.Commands.{accessWord, killWord}
+use Rattle.states.specs.Commands.{stateNumber, plainLink, accessWord, killWord}
+use Rattle.states.specs.Inventory.{withFlag}
+use Rattle.tag.specs.Session.{newFlags}
 use Rattle.tag.specs.Power.{powerUpOf}
 use Rattle.tag.specs.Table.{frameOf}
 use Rattle.tag.specs.Port.{writeOf}
 use Rattle.demands.specs.Calls.{Tag, frame, answerOf, Meets, Idle}
 use Rattle.demands.specs.Demands.{byPort, lasting, Completes}
-use Rattle.demands.specs.Facts.{Readable, Writable, Lockable, PermaLockable, PortWrites}
+use Rattle.demands.specs.Facts.{Readable, Writable, Lockable, PermaLockable, PortWrites, Slotted, Singled, Numbered, FirstStep, Matches, Adjusts, CountsDown, Selected, Takeable}
 use Rattle.demands.specs.Commands.{Air, Says, Enough, wordsTo}
-use Rattle.demands.specs.Worked.{reqRn, write3, readTwo, usedUp}
+use Rattle.demands.specs.Worked.{query0, reqRn, write3, readTwo, round, usedUp}
+use Rattle.demands.specs.Rounds.{queryB, rep, up, same, down, ackBEEF, epcBits, epcOther}
 use Rattle.demands.specs.Torn.{tag, p7}
 use Rattle.demands.specs.Ports.{holding, locked, fourWords}
 use Rattle.tag.specs.Result.{firstOf}
@@ -78,6 +86,10 @@ permaRead = 0xC9 ∷ 0x00 ∷ 0x60 ∷ 0x00 ∷ 0x22 ∷ 0x46 ∷ 0x90 ∷ 0x65 
 unfoldable pub perma3 : List ℕ
 perma3 = 0xC9 ∷ 0x00 ∷ 0xE0 ∷ 0x00 ∷ 0x22 ∷ 0x00 ∷ 0x02 ∷ 0x46 ∷ 0x8D ∷ 0xFB ∷ 0x00 ∷ []
 
+-- Query of session 2, target A, Q = 4
+unfoldable pub query4 : List ℕ
+query4 = 0x80 ∷ 0x22 ∷ 0x48 ∷ []
+
 -- a frame to the worked image, with a room of 12 bytes and power for 50 stores
 abbrev pub air : List ℕ → ℕ → Air
 air f bits = record { image = worked; frame = f; bits = bits; fresh = 0x5678; room = replicate 12 0xAA; power = 50 }
@@ -86,6 +98,17 @@ air f bits = record { image = worked; frame = f; bits = bits; fresh = 0x5678; ro
 abbrev Comes : List ℕ → ℕ → ℕ → Order → Reply → List Store → Type 0
 Comes f bits n o rp ws = Says (air f bits) n o
     × Enough workedLayout (air f bits) (record { state = state.Ready; reply = rp; words = ws })
+
+-- what a Select of SL by 32 bits of EPC from bit 32 on asks for
+abbrev chosen : Choice
+chosen = record { target = 4; action = 0; bits = span 1 32 32; truncate = 0 }
+
+-- session 2 with Q = 0; S2 at B
+abbrev pub once : Round
+once = record { session = 2; q = 0 }
+
+abbrev pub s2B : Flags
+s2B = withFlag newFlags 2 true
 
 -- what a frame call may hand back for P7's Write
 abbrev outcome : Outcome
@@ -133,12 +156,93 @@ port-open : accessWord workedLayout worked 0 ≡ 0 → accessWord workedLayout w
     → every (λ j. eqb (permalock workedLayout worked ((2 + j) / 4)) 0) 4 ≡ true → (j : ℕ) → j < 4 → PortWrites workedLayout worked (2 + j)
 port-open a b o e j l = (a, b, o, eqb-true _ _ (every-at (λ j. eqb (permalock workedLayout worked ((2 + j) / 4)) 0) 4 e j l))
 
+-- Ready is no state of a tag that was acknowledged
+since : {st : State} {q : Round} → Singled st q → 4 ≤ stateNumber st
+since (Singled.acknowledged q n) = lit≤ tt
+since (Singled.opened k) = lit≤ tt
+since (Singled.secured k) = lit≤ tt
+
+not-singled : (q : Round) → Singled state.Ready q → q .session ≢ 2
+not-singled q h e = omega (arith, since h)
+
+alike-bits : every (λ j. eqb (bitAt worked (16 * 22 + 32 + j)) (bitAt epcBits (28 + j))) 32 ≡ true → Selected workedLayout worked epcBits 1 32 32 28
+alike-bits e =
+    record {
+      begins = lit< tt;
+      ends = lit≤ tt;
+      bits = λ j l. eqb-true _ _ (every-at (λ j. eqb (bitAt worked (16 * 22 + 32 + j)) (bitAt epcBits (28 + j))) 32 e j l);
+    }
+
+-- demand 2, the commands of inventory: a frame for each, to a tag in a state that hears it; what it asks of flags, slot, Q and mask
+pub record RoundsMet : Type 0 where
+  pub first-step : FirstStep state.Ready 2 newFlags newFlags
+  pub first-inverts : FirstStep (state.Acknowledged round 0xBEEF) 2 newFlags s2B
+  pub query-waits : Comes query4 22 0 (order.Query 0 0 round) reply.Silence []
+  pub query-waits-match : Matches newFlags 0 0 2 × (0x5678 % 2 ^ 4 ≢ 0)
+  pub query-replies : Comes query0 22 0 (order.Query 0 0 once) (reply.Drawn 0x5678) []
+  pub query-replies-match : Matches newFlags 0 0 2 × (0x5678 % 2 ^ 0 ≡ 0)
+  pub query-passes : Comes queryB 22 0 (order.Query 0 1 once) reply.Silence []
+  pub query-passes-match : Matches newFlags 0 1 2 → ⊥
+  pub adjust-waits : Comes same 9 0 (order.QueryAdjust 2 0) reply.Silence []
+  pub adjust-waits-slot : Slotted (state.Arbitrate round 3) round 3 × Adjusts 0 4 4 × (0x5678 % 2 ^ 4 ≢ 0)
+  pub adjust-replies : Comes down 9 0 (order.QueryAdjust 2 3) (reply.Drawn 0x5678) []
+  pub adjust-replies-slot : Slotted (state.Reply round 0xBEEF) round 0 × Adjusts 3 4 3 × (0x5678 % 2 ^ 3 ≡ 0)
+  pub adjust-ends : Comes up 9 0 (order.QueryAdjust 2 6) reply.Silence []
+  pub adjust-ends-state : Singled (state.Open (plainLink round 0x1234)) round × Adjusts 6 4 5
+  pub rep-waits : Comes rep 4 0 (order.QueryRep 2) reply.Silence []
+  pub rep-waits-slot : Slotted (state.Arbitrate round 3) round 3 × CountsDown 3 2 × (_≢_ {A = ℕ} 2 0)
+  pub rep-wraps-slot : Slotted (state.Reply round 0xBEEF) round 0 × CountsDown 0 0x7FFF × (_≢_ {A = ℕ} 0x7FFF 0)
+  pub rep-replies : Comes rep 4 0 (order.QueryRep 2) (reply.Drawn 0x5678) []
+  pub rep-replies-slot : Slotted (state.Arbitrate round 1) round 1 × CountsDown 1 0
+  pub rep-ends-state : Singled (state.Acknowledged round 0xBEEF) round
+  pub ack : Comes ackBEEF 18 0 (order.Ack 0xBEEF) (reply.Epc 23 3) []
+  pub ack-wrong : Comes ackBEEF 18 0 (order.Ack 0xBEEF) reply.Silence []
+  pub ack-wrong-number : Numbered (state.Secured (plainLink round 0x1234)) round 0x1234 × (_≢_ {A = ℕ} 0xBEEF 0x1234)
+  pub select-matching : Comes epcBits 77 0 (order.Select chosen 28) reply.Silence []
+  pub select-matching-bits : Takeable chosen × Selected workedLayout worked epcBits 1 32 32 28
+  pub select-other : Comes epcOther 77 0 (order.Select chosen 28) reply.Silence []
+  pub select-other-bits : Takeable chosen × (Selected workedLayout worked epcOther 1 32 32 28 → ⊥)
+
+pub rounds-met : RoundsMet
+unfolding worked wordAt withWord wordsBits bitsOf crcOf crc5Of fieldAt pointerAt heardOf checksumRight checksum5Right checked query0 query4 queryB same up down rep ackBEEF epcBits epcOther
+rounds-met =
+    record {
+      first-step = inr (not-singled, refl);
+      first-inverts = inl (round, Singled.acknowledged round 0xBEEF, refl, refl);
+      query-waits = (refl, (lit≤ tt, lit≤ tt));
+      query-waits-match = ((inl (lit< tt), inl (refl, refl)), λ e. omega (arith, e));
+      query-replies = (refl, (lit≤ tt, lit≤ tt));
+      query-replies-match = ((inl (lit< tt), inl (refl, refl)), refl);
+      query-passes = (refl, (lit≤ tt, lit≤ tt));
+      query-passes-match = λ h. ⊎-elim (λ p. omega (arith, p .0)) (λ p. false≢true (p .1)) (h .1);
+      adjust-waits = (refl, (lit≤ tt, lit≤ tt));
+      adjust-waits-slot = (Slotted.arbitrate round 3, inr (inr (inl (refl, refl))), λ e. omega (arith, e));
+      adjust-replies = (refl, (lit≤ tt, lit≤ tt));
+      adjust-replies-slot = (Slotted.reply round 0xBEEF, inr (inr (inr (inl (refl, lit≤ tt, refl)))), refl);
+      adjust-ends = (refl, (lit≤ tt, lit≤ tt));
+      adjust-ends-state = (Singled.opened (plainLink round 0x1234), inl (refl, lit< tt, refl));
+      rep-waits = (refl, (lit≤ tt, lit≤ tt));
+      rep-waits-slot = (Slotted.arbitrate round 3, inr refl, λ e. omega (arith, e));
+      rep-wraps-slot = (Slotted.reply round 0xBEEF, inl (refl, refl), λ e. omega (arith, e));
+      rep-replies = (refl, (lit≤ tt, lit≤ tt));
+      rep-replies-slot = (Slotted.arbitrate round 1, inr refl);
+      rep-ends-state = Singled.acknowledged round 0xBEEF;
+      ack = (refl, (lit≤ tt, lit≤ tt));
+      ack-wrong = (refl, (lit≤ tt, lit≤ tt));
+      ack-wrong-number = (Numbered.secured (plainLink round 0x1234), λ e. omega (arith, e));
+      select-matching = (refl, (lit≤ tt, lit≤ tt));
+      select-matching-bits = ((lit≤ tt, (λ e. omega (arith, e)), refl), alike-bits refl);
+      select-other = (refl, (lit≤ tt, lit≤ tt));
+      select-other-bits = ((lit≤ tt, (λ e. omega (arith, e)), refl), λ s. let z : _≡_ {A = ℕ} 1 0 = s .bits 31 (lit< tt) in omega arith);
+    }
+
 pub record Met : Type 0 where
   -- demand 1: an outcome that meets the promise
   pub one : Meets answerOf tag (frame write3 66 0x1234 (replicate 12 0xAA) 5) outcome (answerOf tag (lasting p7 5) .image) (answerOf tag (lasting p7 5) .room)
   -- all demands: a good image with nothing pending
   pub idle : Idle workedLayout worked
   -- demand 2: a frame for each command, and no code that applies
+  pub rounds : RoundsMet
   pub req-rn : Comes reqRn 40 0xBEEF order.ReqRn (reply.Number 0x5678) []
   pub req-rn-cover : Comes reqCover 40 0x1234 order.ReqRn (reply.Number 0x5678) []
   pub read : Comes readTwo 58 0x1234 (order.Read (span 3 2 2)) (reply.Words 30 2 0x1234) []
@@ -177,6 +281,7 @@ met =
     record {
       one = refl;
       idle = record { sound = refl; nothing = refl };
+      rounds = rounds-met;
       req-rn = (refl, (lit≤ tt, lit≤ tt));
       req-rn-cover = (refl, (lit≤ tt, lit≤ tt));
       read = (refl, (lit≤ tt, lit≤ tt));
