@@ -4,12 +4,12 @@ use Rattle.states.proofs.inventory.acknowledged.Statement.{statement}
 use Rattle.states.proofs.inventory.acknowledged.Tie as tie
 
 returns : tie.Need-returns
-returns c = 
+returns c =
     rw (c .before .link-of .ensures)
     (simp (← c .before .before .before .is-reply .ensures, c .before .before .if1 .taken))
 
 returns-2 : tie.Need-returns-2
-returns-2 c = 
+returns-2 c =
     rw (c .used .ensures)
     (simp (← c .before .before .is-reply .ensures, c .before .if1 .left))
 
