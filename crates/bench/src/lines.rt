@@ -128,17 +128,6 @@ fn power_line(d: Desk, line: &[u8], image: &mut [u8], out: &mut [u8; 65536]) -> 
     told(d, tag::power_up(image, s), b"", out)
 }
 
-fn admit_line(d: Desk, line: &[u8], out: &mut [u8; 65536]) -> Desk {
-    if parts::count(line) != 2 {
-        return bad(d, out);
-    }
-    let Word::Is(w) = parts::word_of(parts::part(line, 1)) else {
-        return bad(d, out);
-    };
-    let session = d.session;
-    told(d, session.admit(w), b"", out)
-}
-
 // A frame into a room.
 fn heard(
     d: Desk,
@@ -308,7 +297,6 @@ fn call(d: Desk, v: Verb, line: &[u8], image: &mut [u8], out: &mut [u8; 65536]) 
         Verb::Image => bad(d, out),
         Verb::Check => check_line(d, line, image, out),
         Verb::Power => power_line(d, line, image, out),
-        Verb::Admit => admit_line(d, line, out),
         Verb::Frame => frame_line(d, line, image, out),
         Verb::Ask => ask_line(d, line, out),
         Verb::Release => release_line(d, line, out),

@@ -5,7 +5,6 @@ pub enum Verb {
     Image,
     Check,
     Power,
-    Admit,
     Frame,
     Ask,
     Release,
@@ -47,9 +46,6 @@ pub fn verb_of(p: &[u8]) -> Verb {
     }
     if same(p, b"power") {
         return Verb::Power;
-    }
-    if same(p, b"admit") {
-        return Verb::Admit;
     }
     if same(p, b"frame") {
         return Verb::Frame;

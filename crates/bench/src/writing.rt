@@ -2,12 +2,14 @@
 ghost use Prim.Native.Nat.{_<_};
 use libc::STDOUT_FILENO;
 use tag::Cover;
+use tag::Flags;
 use tag::Half;
 use tag::Link;
 use tag::Live;
 use tag::Outcome;
 use tag::Power;
 use tag::Register;
+use tag::Round;
 use tag::Session;
 use tag::State;
 
@@ -113,14 +115,19 @@ fn put_link(out: &mut [u8; 65536], at: usize, k: Link) -> usize {
     put_half(out, q4, h)
 }
 
+// A state's name, and the number that it replied.
+fn put_replied(out: &mut [u8; 65536], at: usize, name: &[u8], w: u16) -> usize {
+    let q = text(out, at, name);
+    let q2 = put_word(out, q, w);
+    text(out, q2, b" - -")
+}
+
 fn put_state(out: &mut [u8; 65536], at: usize, s: State) -> usize {
     match s {
-        State::Arbitrate => text(out, at, b"arbitrate - - -"),
-        State::Acknowledged(w) => {
-            let q = text(out, at, b"acknowledged ");
-            let q2 = put_word(out, q, w);
-            text(out, q2, b" - -")
-        }
+        State::Ready => text(out, at, b"ready - - -"),
+        State::Arbitrate(_, _) => text(out, at, b"arbitrate - - -"),
+        State::Reply(_, w) => put_replied(out, at, b"reply ", w),
+        State::Acknowledged(_, w) => put_replied(out, at, b"acknowledged ", w),
         State::Open(k) => {
             let q = text(out, at, b"open ");
             put_link(out, q, k)
@@ -147,21 +154,75 @@ fn bits_of(r: Register) -> u64 {
     0
 }
 
+// Whether the port is held, and the register.
+fn put_port(out: &mut [u8; 65536], at: usize, held: bool, r: Register) -> usize {
+    if held {
+        return labelled(out, at, b" held ", bits_of(r));
+    }
+    labelled(out, at, b" free ", bits_of(r))
+}
+
+fn put_slot(out: &mut [u8; 65536], at: usize, slot: u16) -> usize {
+    labelled(out, at, b" ", slot as u64)
+}
+
+// A round's Q and session.
+fn put_round(out: &mut [u8; 65536], at: usize, r: Round) -> usize {
+    let q = labelled(out, at, b" ", r.q as u64);
+    labelled(out, q, b" s", r.session as u64)
+}
+
+// The round of a state that has no slot.
+fn put_turn(out: &mut [u8; 65536], at: usize, r: Round) -> usize {
+    let q = text(out, at, b" -");
+    put_round(out, q, r)
+}
+
+// Slot, Q and round of a state.
+fn put_place(out: &mut [u8; 65536], at: usize, s: State) -> usize {
+    match s {
+        State::Ready => text(out, at, b" - - -"),
+        State::Arbitrate(r, slot) => {
+            let q = put_slot(out, at, slot);
+            put_round(out, q, r)
+        }
+        State::Reply(r, _) => put_turn(out, at, r),
+        State::Acknowledged(r, _) => put_turn(out, at, r),
+        State::Open(k) => put_turn(out, at, k.round),
+        State::Secured(k) => put_turn(out, at, k.round),
+        State::Killed => text(out, at, b" - - -"),
+    }
+}
+
+// An inventoried flag, or SL, as a letter.
+fn letter(b: bool, yes: u8, no: u8) -> u8 {
+    if b { yes } else { no }
+}
+
+fn put_flags(out: &mut [u8; 65536], at: usize, f: Flags) -> usize {
+    let q = byte(out, at, b' ');
+    let q0 = byte(out, q, letter(f.s0, b'B', b'A'));
+    let q1 = byte(out, q0, letter(f.s1, b'B', b'A'));
+    let q2 = byte(out, q1, letter(f.s2, b'B', b'A'));
+    let q3 = byte(out, q2, letter(f.s3, b'B', b'A'));
+    byte(out, q3, letter(f.sl, b'S', b'-'))
+}
+
 fn put_live(out: &mut [u8; 65536], at: usize, l: Live) -> usize {
     let s = l.state;
     let r = l.register;
+    let f = l.flags;
     let q = put_state(out, at, s);
-    if l.held {
-        return labelled(out, q, b" held ", bits_of(r));
-    }
-    labelled(out, q, b" free ", bits_of(r))
+    let q2 = put_port(out, q, l.held, r);
+    let q3 = put_place(out, q2, s);
+    put_flags(out, q3, f)
 }
 
 fn put_session(out: &mut [u8; 65536], at: usize, s: Session) -> usize {
     let q = text(out, at, b" session ");
     let power = s.power;
     match power {
-        Power::Off => text(out, q, b"off - - - free 0"),
+        Power::Off => text(out, q, b"off - - - free 0 - - - -"),
         Power::On(l) => put_live(out, q, l),
     }
 }

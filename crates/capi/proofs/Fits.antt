@@ -2,18 +2,21 @@
 use Prim.Native.Nat.{ℕ, zero, suc, _^_, _≤_, _<_}
 use mathlib.Core.Path.{_≡_, refl, sym, ap, _∙_}
 use mathlib.Core.Bool.{Bool, true, false, cond, not, _&&_, _||_}
-use mathlib.Core.List.{[], _∷_}
+use mathlib.Core.List.{List, [], _∷_}
 use native.Mathlib.Omega.{arith}
 use lib.Dec.{eqb, leb, ltb}
 use lib.Bits.{bitOr, or-lt, or-add-and, and-le-l, and-le-r}
 use borrow.Author.Tests.{eq-eqb, ne-eqb, eqb-true, leb-true, le-leb, ltb-false, eqb-false, not-true}
 use Rattle.bits.proofs.Below.{and-left, and-right, and-both, all-each}
+use Rattle.frames.specs.declared.Round.{Round}
 use Rattle.states.specs.declared.Cover.{Cover}
 use Rattle.states.specs.declared.Cover.the-variants as cover
 use Rattle.states.specs.declared.Half.{Half}
 use Rattle.states.specs.declared.Half.the-variants as half
+use Rattle.states.specs.declared.Link.{Link}
 use Rattle.states.specs.declared.State.{State}
 use Rattle.states.specs.declared.State.the-variants as state
+use Rattle.states.specs.Commands.{noRound, plainLink}
 use Rattle.tag.specs.declared.Live.{Live}
 use Rattle.tag.specs.declared.Power.{Power}
 use Rattle.tag.specs.declared.Power.the-variants as power
@@ -21,15 +24,33 @@ use Rattle.tag.specs.declared.Session.{Session}
 use Rattle.tag.specs.Session.{offSession}
 use Rattle.tag.specs.Port.{bitOf}
 use Rattle.capi.specs.declared.Record.{Record}
-use Rattle.capi.specs.Records.{coveredIn, coverIn, halfIn, upperIn, recordWith, linkedRecord, recordIn, recordOf, coverOf, halfOf, linkFrom, onOf, looseOf, same, sessionOf}
-use Rattle.capi.specs.Steps.{plain, stateFrom, nearOf, flagsFit, numbersFit, isBare, stateFits, fitsOf}
-use Rattle.capi.specs.Laws.{same-is}
+use Rattle.capi.specs.Records.{coveredIn, coverIn, halfIn, upperIn, recordWith, recordIn, recordOf, coverOf, halfOf, roundFrom, linkFrom, flagsFrom, onOf, looseOf, same, sessionOf}
+use Rattle.capi.specs.Steps.{stateFrom, nearOf, flagsFit, numbersFit, isBare, isIdle, bareFits, stateFits, fitsOf}
+use Rattle.capi.specs.Laws.{alike, same-is, is-same}
 
-or-left : (a b : ℕ) → a ≤ bitOr a b
-or-left a b = omega (arith, or-add-and a b, and-le-r a b)
+-- many numbers joined by their bits: each is at most the whole
+abbrev joined : ℕ → List ℕ → ℕ
+joined a [] = a
+joined a (b ∷ bs) = joined (bitOr a b) bs
 
-or-right : (a b : ℕ) → b ≤ bitOr a b
-or-right a b = omega (arith, or-add-and a b, and-le-l a b)
+abbrev AllTo : ℕ → List ℕ → Type 0
+AllTo n [] = Unit
+AllTo n (b ∷ bs) = (b ≤ n) × AllTo n bs
+
+each-to : (n a : ℕ) (bs : List ℕ) → joined a bs ≤ n → (a ≤ n) × AllTo n bs
+each-to n a [] l = (l, tt)
+each-to n a (b ∷ bs) l =
+    let h = each-to n (bitOr a b) bs l in
+    (omega (arith, h .0, or-add-and a b, and-le-r a b), (omega (arith, h .0, or-add-and a b, and-le-l a b), h .1))
+
+-- joined bits are bits
+abbrev AllBits : List ℕ → Type 0
+AllBits [] = Unit
+AllBits (b ∷ bs) = (b < 2 ^ 1) × AllBits bs
+
+bits-joined : (a : ℕ) (bs : List ℕ) → a < 2 ^ 1 → AllBits bs → joined a bs < 2 ^ 1
+bits-joined a [] l h = l
+bits-joined a (b ∷ bs) l h = bits-joined (bitOr a b) bs (or-lt 1 a b l (h .0)) (h .1)
 
 -- reading, then writing, gives the field back
 bit-back : (x : ℕ) → x ≤ 1 → bitOf (not (eqb x 0)) ≡ x
@@ -82,6 +103,11 @@ record Facts (r : Record) : Type 0 where
   unwritten : r .unwritten ≤ 1
   killed : r .killed ≤ 1
   covered : r .covered ≤ 1
+  s0 : r .s0 ≤ 1
+  s1 : r .s1 ≤ 1
+  s2 : r .s2 ≤ 1
+  s3 : r .s3 ≤ 1
+  sl : r .sl ≤ 1
   half : r .half ≤ 2
   cover : r .covered ≡ 0 → r .cover ≡ 0
   upper : r .half ≡ 0 → r .upper ≡ 0
@@ -89,24 +115,26 @@ record Facts (r : Record) : Type 0 where
 facts : (r : Record) → flagsFit r ≡ true → numbersFit r ≡ true → Facts r
 unfolding flagsFit numbersFit
 facts r e n =
-    let a = bitOr (r .held) (r .unwritten) in
-    let b = bitOr a (r .killed) in
-    let most : bitOr b (r .covered) ≤ 1 = leb-true _ 1 e in
+    let t = each-to 1 (r .held) (r .unwritten ∷ r .killed ∷ r .covered ∷ r .s0 ∷ r .s1 ∷ r .s2 ∷ r .s3 ∷ r .sl ∷ []) (leb-true _ 1 e) in
+    let f = t .1 .1 .1 .1 in
     let x = not (eqb (r .covered) 0) || eqb (r .cover) 0 in
     let y = cond (eqb (r .half) 0) (eqb (r .upper) 0) (leb (r .half) 2) in
-    let lb : b ≤ 1 = omega (arith, most, or-left b (r .covered)) in
-    let la : a ≤ 1 = omega (arith, lb, or-left a (r .killed)) in
     record {
-      held = omega (arith, la, or-left (r .held) (r .unwritten));
-      unwritten = omega (arith, la, or-right (r .held) (r .unwritten));
-      killed = omega (arith, lb, or-right a (r .killed));
-      covered = omega (arith, most, or-right b (r .covered));
+      held = t .0;
+      unwritten = t .1 .0;
+      killed = t .1 .1 .0;
+      covered = t .1 .1 .1 .0;
+      s0 = f .0;
+      s1 = f .1 .0;
+      s2 = f .1 .1 .0;
+      s3 = f .1 .1 .1 .0;
+      sl = f .1 .1 .1 .1 .0;
       half = one-of-three (r .half) (r .upper) (and-right x y n);
       cover = zero-with (r .covered) (r .cover) (and-left x y n);
       upper = zero-without (r .half) (r .upper) (and-right x y n);
     }
 
--- nothing of a link
+-- nothing of a cover
 record Bare (r : Record) : Type 0 where
   covered : r .covered ≡ 0
   half : r .half ≡ 0
@@ -116,85 +144,114 @@ record Bare (r : Record) : Type 0 where
 bare : (r : Record) → isBare r ≡ true → Bare r
 unfolding isBare
 bare r e =
-    let a = bitOr (r .covered) (r .half) in
-    let b = bitOr a (r .cover) in
-    let none : bitOr b (r .upper) ≡ 0 = eqb-true _ 0 e in
-    let lb : b ≡ 0 = omega (arith, none, or-left b (r .upper)) in
-    let la : a ≡ 0 = omega (arith, lb, or-left a (r .cover)) in
-    record {
-      covered = omega (arith, la, or-left (r .covered) (r .half));
-      half = omega (arith, la, or-right (r .covered) (r .half));
-      cover = omega (arith, lb, or-right a (r .cover));
-      upper = omega (arith, none, or-right b (r .upper));
-    }
+    let none : joined (r .covered) (r .half ∷ r .cover ∷ r .upper ∷ []) ≡ 0 = eqb-true _ 0 e in
+    let t = each-to 0 (r .covered) (r .half ∷ r .cover ∷ r .upper ∷ []) (omega (arith, none)) in
+    record { covered = omega (arith, t .0); half = omega (arith, t .1 .0); cover = omega (arith, t .1 .1 .0); upper = omega (arith, t .1 .1 .1 .0) }
+
+-- nothing of a round
+record Idle (r : Record) : Type 0 where
+  round : r .round ≡ 0
+  q : r .q ≡ 0
+  number : r .number ≡ 0
+  slot : r .slot ≡ 0
+
+idle : (r : Record) → isIdle r ≡ true → Idle r
+unfolding isIdle
+idle r e =
+    let none : joined (r .round) (r .q ∷ r .number ∷ r .slot ∷ []) ≡ 0 = eqb-true _ 0 e in
+    let t = each-to 0 (r .round) (r .q ∷ r .number ∷ r .slot ∷ []) (omega (arith, none)) in
+    record { round = omega (arith, t .0); q = omega (arith, t .1 .0); number = omega (arith, t .1 .1 .0); slot = omega (arith, t .1 .1 .1 .0) }
 
 bare-numbers : (r : Record) → Bare r → numbersFit r ≡ true
 unfolding numbersFit
 bare-numbers r z = simp (z .covered, z .cover, z .half, z .upper)
 
-alone : (r : Record) → stateFits r ≡ true → (eqb (r .state) 3 || eqb (r .state) 4) ≡ false → Bare r × ((eqb (r .state) 2 || eqb (r .number) 0) ≡ true)
+alone : (r : Record) → stateFits r ≡ true → (eqb (r .state) 5 || eqb (r .state) 6) ≡ false → Bare r × (bareFits r ≡ true)
 unfolding stateFits
 alone r e n =
-    let b = eqb (r .state) 2 || eqb (r .number) 0 in
-    let g : (isBare r && b) ≡ true = simp n at e in
-    (bare r (and-left (isBare r) b g), and-right (isBare r) b g)
+    let g : (isBare r && bareFits r) ≡ true = simp n at e in
+    (bare r (and-left (isBare r) (bareFits r) g), and-right (isBare r) (bareFits r) g)
+
+linking : (r : Record) → stateFits r ≡ true → (eqb (r .state) 5 || eqb (r .state) 6) ≡ true → (r .slot ≡ 0) × (numbersFit r ≡ true)
+unfolding stateFits
+linking r e l =
+    let g : (eqb (r .slot) 0 && numbersFit r) ≡ true = simp l at e in
+    (eqb-true (r .slot) 0 (and-left (eqb (r .slot) 0) (numbersFit r) g), and-right (eqb (r .slot) 0) (numbersFit r) g)
 
 state-numbers : (r : Record) → stateFits r ≡ true → numbersFit r ≡ true
-unfolding stateFits
-state-numbers r e = go (eqb (r .state) 3 || eqb (r .state) 4) refl
+state-numbers r e = go (eqb (r .state) 5 || eqb (r .state) 6) refl
   where
-    go : (b : Bool) → (eqb (r .state) 3 || eqb (r .state) 4) ≡ b → numbersFit r ≡ true
-    go true l = simp l at e
+    go : (b : Bool) → (eqb (r .state) 5 || eqb (r .state) 6) ≡ b → numbersFit r ≡ true
+    go true l = linking r e l .1
     go false l = bare-numbers r (alone r e l .0)
-
-same-if : (a b : Record) → a .state ≡ b .state → a .held ≡ b .held → a .unwritten ≡ b .unwritten → a .killed ≡ b .killed → a .covered ≡ b .covered → a .cover ≡ b .cover → a .half ≡ b .half → a .upper ≡ b .upper → a .number ≡ b .number → same a b ≡ true
-unfolding same
-same-if a b s h u k d c f p n = simp (eq-eqb _ _ s, eq-eqb _ _ h, eq-eqb _ _ u, eq-eqb _ _ k, eq-eqb _ _ d, eq-eqb _ _ c, eq-eqb _ _ f, eq-eqb _ _ p, eq-eqb _ _ n)
 
 -- what is read of a record in the state st
 abbrev liveOf : Record → State → Live
 liveOf r st =
-    record { state = st; held = not (eqb (r .held) 0); register = record { unwritten = not (eqb (r .unwritten) 0); killed = not (eqb (r .killed) 0) } }
+    record { flags = flagsFrom r; state = st; held = not (eqb (r .held) 0); register = record { unwritten = not (eqb (r .unwritten) 0); killed = not (eqb (r .killed) 0) } }
 
 module _ (r : Record) (f : Facts r) where
-  -- a state without a link
-  plain-same : (st : State) (n m : ℕ) → r .state ≡ n → r .number ≡ m → r .covered ≡ 0 → r .half ≡ 0 → same (plain (liveOf r st) n m) r ≡ true
-  plain-same st n m e k d h =
-      same-if (plain (liveOf r st) n m) r (sym e) (bit-back _ (f .held)) (bit-back _ (f .unwritten)) (bit-back _ (f .killed)) (sym d) (sym (f .cover d)) (sym h) (sym (f .upper h)) (sym k)
+  -- a state that holds k, with its slot
+  written-same : (st : State) (n : ℕ) (k : Link) (s : ℕ) → r .state ≡ n → s ≡ r .slot → k .round .session ≡ r .round → k .round .q ≡ r .q → k .handle ≡ r .number
+      → coveredIn (k .cover) ≡ r .covered → coverIn (k .cover) ≡ r .cover → halfIn (k .half) ≡ r .half → upperIn (k .half) ≡ r .upper
+      → same (recordWith (liveOf r st) n k s) r ≡ true
+  written-same st n k s e p a q h d c m u =
+      is-same (recordWith (liveOf r st) n k s) r
+      (alike (recordWith (liveOf r st) n k s) r (sym e) (bit-back _ (f .held)) (bit-back _ (f .unwritten)) (bit-back _ (f .killed)) d m a q (bit-back _ (f .s0)) (bit-back _ (f .s1)) (bit-back _ (f .s2)) (bit-back _ (f .s3)) (bit-back _ (f .sl)) h c u p)
+
+  -- one without a cover
+  plain-same : (st : State) (n : ℕ) (q : Round) (m s : ℕ) → Bare r → r .state ≡ n → s ≡ r .slot → q .session ≡ r .round → q .q ≡ r .q → m ≡ r .number
+      → same (recordWith (liveOf r st) n (plainLink q m) s) r ≡ true
+  plain-same st n q m s z e p a b h = written-same st n (plainLink q m) s e p a b h (sym (z .covered)) (sym (z .cover)) (sym (z .half)) (sym (z .upper))
 
   -- one with its link
-  linked-same : (st : State) (n : ℕ) → r .state ≡ n → same (linkedRecord (liveOf r st) n (linkFrom r)) r ≡ true
-  linked-same st n e =
-      same-if (linkedRecord (liveOf r st) n (linkFrom r)) r (sym e) (bit-back _ (f .held)) (bit-back _ (f .unwritten)) (bit-back _ (f .killed)) (covered-back (r .covered) (r .cover) (f .covered))
-      (cover-back (r .covered) (r .cover) (f .cover)) (half-back (r .half) (r .upper) (f .half)) (upper-back (r .half) (r .upper) (f .upper)) refl
+  linked-same : (st : State) (n : ℕ) → r .state ≡ n → 0 ≡ r .slot → same (recordWith (liveOf r st) n (linkFrom r) 0) r ≡ true
+  linked-same st n e p =
+      written-same st n (linkFrom r) 0 e p refl refl refl (covered-back (r .covered) (r .cover) (f .covered)) (cover-back (r .covered) (r .cover) (f .cover))
+      (half-back (r .half) (r .upper) (f .half)) (upper-back (r .half) (r .upper) (f .upper))
 
   reads : (st : State) → looseOf r ≡ onOf r st → nearOf r ≡ onOf r st → same (recordIn (liveOf r st) st) r ≡ true → nearOf r ≡ sessionOf r
   unfolding sessionOf
   reads st p q e = rw (q, p, e)
 
-  by-state : (n : ℕ) → r .state ≡ n → stateFits r ≡ true → 1 ≤ n → n ≤ 5 → nearOf r ≡ sessionOf r
-  unfolding looseOf nearOf stateFrom
+  by-state : (n : ℕ) → r .state ≡ n → stateFits r ≡ true → 1 ≤ n → n ≤ 7 → nearOf r ≡ sessionOf r
+  unfolding looseOf nearOf stateFrom bareFits
   by-state zero e g l m = absurd (omega arith)
   by-state (suc zero) e g l m =
       let z = alone r g (simp e) in
-      reads state.Arbitrate (simp e) (simp e) (plain-same state.Arbitrate 1 0 e (eqb-true (r .number) 0 (simp e at (z .1))) (z .0 .covered) (z .0 .half))
+      let i = idle r (simp e at (z .1)) in
+      reads state.Ready (simp e) (simp e) (plain-same state.Ready 1 noRound 0 0 (z .0) e (sym (i .slot)) (sym (i .round)) (sym (i .q)) (sym (i .number)))
   by-state (suc (suc zero)) e g l m =
       let z = alone r g (simp e) in
-      reads (state.Acknowledged (r .number)) (simp e) (simp e) (plain-same (state.Acknowledged (r .number)) 2 (r .number) e refl (z .0 .covered) (z .0 .half))
-  by-state (suc (suc (suc zero))) e g l m = reads (state.Open (linkFrom r)) (simp e) (simp e) (linked-same (state.Open (linkFrom r)) 3 e)
-  by-state (suc (suc (suc (suc zero)))) e g l m = reads (state.Secured (linkFrom r)) (simp e) (simp e) (linked-same (state.Secured (linkFrom r)) 4 e)
-  by-state (suc (suc (suc (suc (suc zero))))) e g l m =
+      let st = state.Arbitrate (roundFrom r) (r .slot) in
+      reads st (simp e) (simp e) (plain-same st 2 (roundFrom r) 0 (r .slot) (z .0) e refl refl refl (sym (eqb-true (r .number) 0 (simp e at (z .1)))))
+  by-state (suc (suc (suc zero))) e g l m =
       let z = alone r g (simp e) in
-      reads state.Killed (simp e) (simp e) (plain-same state.Killed 5 0 e (eqb-true (r .number) 0 (simp e at (z .1))) (z .0 .covered) (z .0 .half))
-  by-state (suc (suc (suc (suc (suc (suc n)))))) e g l m = absurd (omega arith)
+      let st = state.Reply (roundFrom r) (r .number) in
+      reads st (simp e) (simp e) (plain-same st 3 (roundFrom r) (r .number) 0 (z .0) e (sym (eqb-true (r .slot) 0 (simp e at (z .1)))) refl refl refl)
+  by-state (suc (suc (suc (suc zero)))) e g l m =
+      let z = alone r g (simp e) in
+      let st = state.Acknowledged (roundFrom r) (r .number) in
+      reads st (simp e) (simp e) (plain-same st 4 (roundFrom r) (r .number) 0 (z .0) e (sym (eqb-true (r .slot) 0 (simp e at (z .1)))) refl refl refl)
+  by-state (suc (suc (suc (suc (suc zero))))) e g l m =
+      let z = linking r g (simp e) in
+      reads (state.Open (linkFrom r)) (simp e) (simp e) (linked-same (state.Open (linkFrom r)) 5 e (sym (z .0)))
+  by-state (suc (suc (suc (suc (suc (suc zero)))))) e g l m =
+      let z = linking r g (simp e) in
+      reads (state.Secured (linkFrom r)) (simp e) (simp e) (linked-same (state.Secured (linkFrom r)) 6 e (sym (z .0)))
+  by-state (suc (suc (suc (suc (suc (suc (suc zero))))))) e g l m =
+      let z = alone r g (simp e) in
+      let i = idle r (simp e at (z .1)) in
+      reads state.Killed (simp e) (simp e) (plain-same state.Killed 7 noRound 0 0 (z .0) e (sym (i .slot)) (sym (i .round)) (sym (i .q)) (sym (i .number)))
+  by-state (suc (suc (suc (suc (suc (suc (suc (suc n)))))))) e g l m = absurd (omega arith)
 
 pub fit-near : (r : Record) → fitsOf r ≡ true → nearOf r ≡ sessionOf r
 unfolding fitsOf
 fit-near r e =
-    let t = all-each (not (eqb (r .state) 0 || ltb 5 (r .state)) ∷ flagsFit r ∷ stateFits r ∷ []) e in
-    let s = none (eqb (r .state) 0) (ltb 5 (r .state)) (t .0) in
+    let t = all-each (not (eqb (r .state) 0 || ltb 7 (r .state)) ∷ flagsFit r ∷ stateFits r ∷ []) e in
+    let s = none (eqb (r .state) 0) (ltb 7 (r .state)) (t .0) in
     let n : r .state ≡ 0 → ⊥ = eqb-false _ 0 (s .0) in
-    by-state r (facts r (t .1 .0) (state-numbers r (t .1 .1 .0))) (r .state) refl (t .1 .1 .0) (omega arith) (ltb-false 5 (r .state) (s .1))
+    by-state r (facts r (t .1 .0) (state-numbers r (t .1 .1 .0))) (r .state) refl (t .1 .1 .0) (omega arith) (ltb-false 7 (r .state) (s .1))
 
 -- the record of any session under power fits
 bit-small : (b : Bool) → bitOf b < 2 ^ 1
@@ -214,29 +271,28 @@ upper-zero half.Nothing = refl
 upper-zero (half.Access u) = refl
 upper-zero (half.Kill u) = refl
 
-module _ (l : Live) (n m : ℕ) (c : Cover) (h : Half) where
-  flags-of : flagsFit (recordWith l n m c h) ≡ true
+module _ (l : Live) (n : ℕ) (k : Link) (s : ℕ) where
+  flags-of : flagsFit (recordWith l n k s) ≡ true
   unfolding flagsFit
   flags-of =
       let a = bitOf (l .held) in
-      let b = bitOf (l .register .unwritten) in
-      let d = bitOf (l .register .killed) in
-      let x = or-lt 1 a b (bit-small (l .held)) (bit-small (l .register .unwritten)) in
-      let y = or-lt 1 (bitOr a b) d x (bit-small (l .register .killed)) in
-      let z = or-lt 1 (bitOr (bitOr a b) d) (coveredIn c) y (covered-small c) in
-      le-leb (bitOr (bitOr (bitOr a b) d) (coveredIn c)) 1 (omega (arith, z))
+      let bs = bitOf (l .register .unwritten) ∷ bitOf (l .register .killed) ∷ coveredIn (k .cover) ∷ bitOf (l .flags .s0) ∷ bitOf (l .flags .s1) ∷ bitOf (l .flags .s2) ∷ bitOf (l .flags .s3) ∷ bitOf (l .flags .sl) ∷ [] in
+      let z = bits-joined a bs (bit-small (l .held)) (bit-small (l .register .unwritten), (bit-small (l .register .killed), (covered-small (k .cover), (bit-small (l .flags .s0), (bit-small (l .flags .s1), (bit-small (l .flags .s2), (bit-small (l .flags .s3), (bit-small (l .flags .sl), tt)))))))) in
+      le-leb (joined a bs) 1 (omega (arith, z))
 
-  numbers-of : numbersFit (recordWith l n m c h) ≡ true
+  numbers-of : numbersFit (recordWith l n k s) ≡ true
   unfolding numbersFit
-  numbers-of = and-both (not (eqb (coveredIn c) 0) || eqb (coverIn c) 0) _ (cover-zero c) (upper-zero h)
+  numbers-of = and-both (not (eqb (coveredIn (k .cover)) 0) || eqb (coverIn (k .cover)) 0) _ (cover-zero (k .cover)) (upper-zero (k .half))
 
 fit : (l : Live) (st : State) → fitsOf (recordIn l st) ≡ true
-unfolding fitsOf stateFits isBare
-fit l state.Arbitrate = rw (flags-of l 1 0 cover.Nothing half.Nothing)
-fit l (state.Acknowledged n) = rw (flags-of l 2 n cover.Nothing half.Nothing)
-fit l (state.Open k) = rw (flags-of l 3 (k .handle) (k .cover) (k .half), numbers-of l 3 (k .handle) (k .cover) (k .half))
-fit l (state.Secured k) = rw (flags-of l 4 (k .handle) (k .cover) (k .half), numbers-of l 4 (k .handle) (k .cover) (k .half))
-fit l state.Killed = rw (flags-of l 5 0 cover.Nothing half.Nothing)
+unfolding fitsOf stateFits isBare isIdle bareFits
+fit l state.Ready = rw (flags-of l 1 (plainLink noRound 0) 0)
+fit l (state.Arbitrate q slot) = rw (flags-of l 2 (plainLink q 0) slot)
+fit l (state.Reply q n) = rw (flags-of l 3 (plainLink q n) 0)
+fit l (state.Acknowledged q n) = rw (flags-of l 4 (plainLink q n) 0)
+fit l (state.Open k) = rw (flags-of l 5 k 0, numbers-of l 5 k 0)
+fit l (state.Secured k) = rw (flags-of l 6 k 0, numbers-of l 6 k 0)
+fit l state.Killed = rw (flags-of l 7 (plainLink noRound 0) 0)
 
 abbrev session : Power → Session
 session p = record { power = p }

@@ -5,8 +5,6 @@ use mathlib.Core.Bool.{true≢false, Bool, true, false, cond, not}
 use mathlib.Core.List.{List}
 use lib.Dec.{eqb}
 use borrow.Author.Tests.{eqb-false, eq-eqb, ne-eqb}
-use Rattle.states.specs.declared.State.{State}
-use Rattle.states.specs.declared.State.the-variants as state
 use Rattle.tag.specs.declared.Live.{Live}
 use Rattle.tag.specs.declared.Power.{Power}
 use Rattle.tag.specs.declared.Power.the-variants as power
@@ -73,34 +71,21 @@ own-record r {h} e = go (sessionOf r .power) refl
         ∙ sym (own-of r l q)
         ∙ sym (ap recordOf q)
 
-state-killed : (l : Live) (st : State) → eqb (recordIn l st .state) 5 ≡ isKilled st
-state-killed l state.Arbitrate = refl
-state-killed l (state.Acknowledged n) = refl
-state-killed l (state.Open k) = refl
-state-killed l (state.Secured k) = refl
-state-killed l state.Killed = refl
-
 -- bit 0 is one field of the record
-bit-set : (l n : Live) (st : State) → l .held ≡ n .held → l .register .unwritten ≡ n .register .unwritten → n .register .killed ≡ true
-    → killedRecord (recordIn l st) ≡ recordIn n st
-bit-set l n state.Arbitrate a b c = rw (a, b, c)
-bit-set l n (state.Acknowledged k) a b c = rw (a, b, c)
-bit-set l n (state.Open k) a b c = rw (a, b, c)
-bit-set l n (state.Secured k) a b c = rw (a, b, c)
-bit-set l n state.Killed a b c = rw (a, b, c)
+bit-set : (l : Live) → killedRecord (recordIn l (l .state)) ≡ recordIn (record { flags = l .flags; state = l .state; held = l .held; register = withKilled (l .register) }) (l .state)
+bit-set l = refl
 
 module _ (r : Record) {h : ℕ} (e : h ≡ heldRow (sessionOf r .power)) (z : h ≡ 0) where
   off-never : sessionOf r .power ≡ power.Off → ⊥
   off-never q = let five : _≡_ {A = ℕ} 5 0 = sym (e ∙ ap heldRow q) ∙ z in eqb-false 5 0 refl five
 
-  pub dead-state : eqb (r .state) 5 ≡ isKilled (liveOf (sessionOf r .power) .state)
+  pub dead-state : eqb (r .state) 7 ≡ isKilled (liveOf (sessionOf r .power) .state)
   dead-state = go (sessionOf r .power) refl
     where
-      go : (p : Power) → sessionOf r .power ≡ p → eqb (r .state) 5 ≡ isKilled (liveOf (sessionOf r .power) .state)
+      go : (p : Power) → sessionOf r .power ≡ p → eqb (r .state) 7 ≡ isKilled (liveOf (sessionOf r .power) .state)
       go power.Off q = absurd (off-never q)
       go (power.On l) q =
-          ap (λ (x : Record). eqb (x .state) 5) (sym (own-of r l q))
-          ∙ state-killed l (l .state)
+          ap (λ (x : Record). eqb (x .state) 7) (sym (own-of r l q))
           ∙ sym (ap (λ (p : Power). isKilled (liveOf p .state)) q)
 
   pub record-after : (k : Bool) → cond k (killedRecord r) r ≡ recordOf (cond k (afterKilled (sessionOf r .power)) (sessionOf r) .power)
@@ -110,6 +95,6 @@ module _ (r : Record) {h : ℕ} (e : h ≡ heldRow (sessionOf r .power)) (z : h 
       go power.Off q k = absurd (off-never q)
       go (power.On l) q true =
           ap killedRecord (sym (own-of r l q))
-          ∙ bit-set l (record { state = l .state; held = l .held; register = withKilled (l .register) }) (l .state) refl refl refl
+          ∙ bit-set l
           ∙ sym (ap (λ (p : Power). recordOf (afterKilled p .power)) q)
       go (power.On l) q false = sym (own-of r l q) ∙ sym (ap recordOf q)

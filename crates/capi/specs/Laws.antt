@@ -1,12 +1,12 @@
 -- Reading what was written gives the session back, and a record that reads as a live session is that session's own (RULES 10.2 and 10.3).
 -- Assumes nothing.
 use Prim.Native.Nat.{ℕ}
-use mathlib.Core.Path.{_≡_, refl, sym, ap, _∙_}
-use mathlib.Core.Bool.{Bool, true, false, not, _&&_}
-use mathlib.Core.List.{List}
+use mathlib.Core.Path.{_≡_, refl, sym, ap, subst, _∙_}
+use mathlib.Core.Bool.{Bool, true, false, not}
+use mathlib.Core.List.{List, [], _∷_}
 use lib.Dec.{eqb}
 use borrow.Author.Tests.{eq-eqb, eqb-true}
-use Rattle.bits.proofs.Below.{and-left, and-right}
+use Rattle.bits.proofs.Below.{all-each}
 use Rattle.states.specs.declared.Cover.{Cover}
 use Rattle.states.specs.declared.Cover.the-variants as cover
 use Rattle.states.specs.declared.Half.{Half}
@@ -16,11 +16,11 @@ use Rattle.states.specs.declared.State.the-variants as state
 use Rattle.tag.specs.declared.Live.{Live}
 use Rattle.tag.specs.declared.Power.{Power}
 use Rattle.tag.specs.declared.Power.the-variants as power
-use Rattle.tag.specs.Session.{offSession}
+use Rattle.tag.specs.Session.{offSession, on}
 use Rattle.tag.specs.Port.{bitOf}
 use Rattle.capi.specs.declared.Record.{Record}
 use Rattle.capi.specs.declared.Told.{Told}
-use Rattle.capi.specs.Records.{coveredIn, coverIn, halfIn, upperIn, recordIn, recordOf, coverOf, halfOf, looseOf, same, sessionOf}
+use Rattle.capi.specs.Records.{coveredIn, coverIn, halfIn, upperIn, recordIn, recordOf, coverOf, halfOf, onOf, looseOf, same, sessionOf}
 use Rattle.tag.specs.Result.{Left}
 use Rattle.capi.specs.Told.{told}
 
@@ -37,51 +37,42 @@ half-again half.Nothing = refl
 half-again (half.Access u) = refl
 half-again (half.Kill u) = refl
 
-loose-again : (l : Live) (st : State) → l .state ≡ st → looseOf (recordIn l st) ≡ record { power = power.On l }
+-- port, register and flags
+on-again : (l : Live) (st : State) → onOf (recordIn l st) st ≡ on (l .flags) st (l .held) (l .register)
+on-again l st = rw (bit-again (l .held), bit-again (l .register .unwritten), bit-again (l .register .killed), bit-again (l .flags .s0), bit-again (l .flags .s1), bit-again (l .flags .s2), bit-again (l .flags .s3), bit-again (l .flags .sl))
+
+loose-again : (l : Live) (st : State) → looseOf (recordIn l st) ≡ on (l .flags) st (l .held) (l .register)
 unfolding looseOf
-loose-again l state.Arbitrate e = rw (bit-again (l .held), bit-again (l .register .unwritten), bit-again (l .register .killed), ← e)
-loose-again l (state.Acknowledged n) e = rw (bit-again (l .held), bit-again (l .register .unwritten), bit-again (l .register .killed), ← e)
-loose-again l (state.Open k) e = rw (bit-again (l .held), bit-again (l .register .unwritten), bit-again (l .register .killed), cover-again (k .cover), half-again (k .half), ← e)
-loose-again l (state.Secured k) e = rw (bit-again (l .held), bit-again (l .register .unwritten), bit-again (l .register .killed), cover-again (k .cover), half-again (k .half), ← e)
-loose-again l state.Killed e = rw (bit-again (l .held), bit-again (l .register .unwritten), bit-again (l .register .killed), ← e)
+loose-again l state.Ready = on-again l state.Ready
+loose-again l (state.Arbitrate q slot) = on-again l (state.Arbitrate q slot)
+loose-again l (state.Reply q n) = on-again l (state.Reply q n)
+loose-again l (state.Acknowledged q n) = on-again l (state.Acknowledged q n)
+loose-again l (state.Open k) = rw (cover-again (k .cover), half-again (k .half)) (on-again l (state.Open k))
+loose-again l (state.Secured k) = rw (cover-again (k .cover), half-again (k .half)) (on-again l (state.Secured k))
+loose-again l state.Killed = on-again l state.Killed
 
 same-self : (r : Record) → same r r ≡ true
 unfolding same
-same-self r = simp (eq-eqb (r .state) (r .state) refl, eq-eqb (r .held) (r .held) refl, eq-eqb (r .unwritten) (r .unwritten) refl, eq-eqb (r .killed) (r .killed) refl, eq-eqb (r .covered) (r .covered) refl, eq-eqb (r .cover) (r .cover) refl, eq-eqb (r .half) (r .half) refl, eq-eqb (r .upper) (r .upper) refl, eq-eqb (r .number) (r .number) refl)
+same-self r = simp (eq-eqb (r .state) (r .state) refl, eq-eqb (r .held) (r .held) refl, eq-eqb (r .unwritten) (r .unwritten) refl, eq-eqb (r .killed) (r .killed) refl, eq-eqb (r .covered) (r .covered) refl, eq-eqb (r .half) (r .half) refl, eq-eqb (r .round) (r .round) refl, eq-eqb (r .q) (r .q) refl, eq-eqb (r .s0) (r .s0) refl, eq-eqb (r .s1) (r .s1) refl, eq-eqb (r .s2) (r .s2) refl, eq-eqb (r .s3) (r .s3) refl, eq-eqb (r .sl) (r .sl) refl, eq-eqb (r .number) (r .number) refl, eq-eqb (r .cover) (r .cover) refl, eq-eqb (r .upper) (r .upper) refl, eq-eqb (r .slot) (r .slot) refl)
 
 -- THE LAW: a session written and read is the session
 pub again : (p : Power) → sessionOf (recordOf p) ≡ record { power = p }
 unfolding sessionOf looseOf same
 again power.Off = refl
-again (power.On l) = rw (loose-again l (l .state) refl) (simp (same-self (recordIn l (l .state))))
+again (power.On l) = rw (loose-again l (l .state)) (simp (same-self (recordIn l (l .state))))
 
-both-true : (a b : Bool) → (a && b) ≡ true → (a ≡ true) × (b ≡ true)
-both-true a b e = (and-left a b e, and-right a b e)
+-- records are equal by their fields, and so by `same`
+pub alike : (a b : Record) → a .state ≡ b .state → a .held ≡ b .held → a .unwritten ≡ b .unwritten → a .killed ≡ b .killed → a .covered ≡ b .covered → a .half ≡ b .half → a .round ≡ b .round → a .q ≡ b .q → a .s0 ≡ b .s0 → a .s1 ≡ b .s1 → a .s2 ≡ b .s2 → a .s3 ≡ b .s3 → a .sl ≡ b .sl → a .number ≡ b .number → a .cover ≡ b .cover → a .upper ≡ b .upper → a .slot ≡ b .slot → a ≡ b
+alike a b e-state e-held e-unwritten e-killed e-covered e-half e-round e-q e-s0 e-s1 e-s2 e-s3 e-sl e-number e-cover e-upper e-slot = λ i. record { state = e-state i; held = e-held i; unwritten = e-unwritten i; killed = e-killed i; covered = e-covered i; half = e-half i; round = e-round i; q = e-q i; s0 = e-s0 i; s1 = e-s1 i; s2 = e-s2 i; s3 = e-s3 i; sl = e-sl i; number = e-number i; cover = e-cover i; upper = e-upper i; slot = e-slot i }
 
 pub same-is : (a b : Record) → same a b ≡ true → a ≡ b
 unfolding same
 same-is a b e =
-    let s = eqb (a .state) (b .state) in
-    let h = eqb (a .held) (b .held) in
-    let u = eqb (a .unwritten) (b .unwritten) in
-    let k = eqb (a .killed) (b .killed) in
-    let d = eqb (a .covered) (b .covered) in
-    let c = eqb (a .cover) (b .cover) in
-    let f = eqb (a .half) (b .half) in
-    let p = eqb (a .upper) (b .upper) in
-    let n = eqb (a .number) (b .number) in
-    let x = both-true (((s && h) && (u && k)) && ((d && c) && (f && p))) n e in
-    let y = both-true ((s && h) && (u && k)) ((d && c) && (f && p)) (x .0) in
-    let z = both-true (s && h) (u && k) (y .0) in
-    let w = both-true (d && c) (f && p) (y .1) in
-    built a b (eqb-true _ _ (both-true s h (z .0) .0)) (eqb-true _ _ (both-true s h (z .0) .1))
-    (eqb-true _ _ (both-true u k (z .1) .0)) (eqb-true _ _ (both-true u k (z .1) .1))
-    (eqb-true _ _ (both-true d c (w .0) .0)) (eqb-true _ _ (both-true d c (w .0) .1))
-    (eqb-true _ _ (both-true f p (w .1) .0)) (eqb-true _ _ (both-true f p (w .1) .1))
-    (eqb-true _ _ (x .1))
-  where
-    built : (a b : Record) → a .state ≡ b .state → a .held ≡ b .held → a .unwritten ≡ b .unwritten → a .killed ≡ b .killed → a .covered ≡ b .covered → a .cover ≡ b .cover → a .half ≡ b .half → a .upper ≡ b .upper → a .number ≡ b .number → a ≡ b
-    built a b s h u k cd c hf up n = λ i. record { state = s i; held = h i; unwritten = u i; killed = k i; covered = cd i; half = hf i; number = n i; cover = c i; upper = up i }
+    let t = all-each (eqb (a .state) (b .state) ∷ eqb (a .held) (b .held) ∷ eqb (a .unwritten) (b .unwritten) ∷ eqb (a .killed) (b .killed) ∷ eqb (a .covered) (b .covered) ∷ eqb (a .half) (b .half) ∷ eqb (a .round) (b .round) ∷ eqb (a .q) (b .q) ∷ eqb (a .s0) (b .s0) ∷ eqb (a .s1) (b .s1) ∷ eqb (a .s2) (b .s2) ∷ eqb (a .s3) (b .s3) ∷ eqb (a .sl) (b .sl) ∷ eqb (a .number) (b .number) ∷ eqb (a .cover) (b .cover) ∷ eqb (a .upper) (b .upper) ∷ eqb (a .slot) (b .slot) ∷ []) e in
+    alike a b (eqb-true _ _ (t .0)) (eqb-true _ _ (t .1 .0)) (eqb-true _ _ (t .1 .1 .0)) (eqb-true _ _ (t .1 .1 .1 .0)) (eqb-true _ _ (t .1 .1 .1 .1 .0)) (eqb-true _ _ (t .1 .1 .1 .1 .1 .0)) (eqb-true _ _ (t .1 .1 .1 .1 .1 .1 .0)) (eqb-true _ _ (t .1 .1 .1 .1 .1 .1 .1 .0)) (eqb-true _ _ (t .1 .1 .1 .1 .1 .1 .1 .1 .0)) (eqb-true _ _ (t .1 .1 .1 .1 .1 .1 .1 .1 .1 .0)) (eqb-true _ _ (t .1 .1 .1 .1 .1 .1 .1 .1 .1 .1 .0)) (eqb-true _ _ (t .1 .1 .1 .1 .1 .1 .1 .1 .1 .1 .1 .0)) (eqb-true _ _ (t .1 .1 .1 .1 .1 .1 .1 .1 .1 .1 .1 .1 .0)) (eqb-true _ _ (t .1 .1 .1 .1 .1 .1 .1 .1 .1 .1 .1 .1 .1 .0)) (eqb-true _ _ (t .1 .1 .1 .1 .1 .1 .1 .1 .1 .1 .1 .1 .1 .1 .0)) (eqb-true _ _ (t .1 .1 .1 .1 .1 .1 .1 .1 .1 .1 .1 .1 .1 .1 .1 .0)) (eqb-true _ _ (t .1 .1 .1 .1 .1 .1 .1 .1 .1 .1 .1 .1 .1 .1 .1 .1 .0))
+
+pub is-same : (a b : Record) → a ≡ b → same a b ≡ true
+is-same a b e = subst (λ (r : Record). same a r ≡ true) e (same-self a)
 
 -- a record that doesn't read as Off is the record of what it reads as
 pub only : (r : Record) → (sessionOf r ≡ offSession → ⊥) → recordOf (sessionOf r .power) ≡ r

@@ -19,9 +19,9 @@ use Rattle.stores.specs.Stores.{powerStores, changeStores}
 use Rattle.states.specs.declared.Cover.the-variants as cover
 use Rattle.states.specs.declared.Half.the-variants as half
 use Rattle.states.specs.declared.State.the-variants as state
-use Rattle.tag.specs.Session.{offSession, on, clear}
+use Rattle.tag.specs.Session.{offSession, newSession, on, clear}
 use Rattle.tag.specs.Power.{powerUpOf}
-use Rattle.tag.specs.Table.{frameOf, admitOf}
+use Rattle.tag.specs.Table.{frameOf}
 use Rattle.tag.specs.Port.{askOf, releaseOf, registerOf, readOf, writeOf}
 use Rattle.capi.specs.declared.Record.{Record}
 use Rattle.capi.specs.declared.Sheet.{Sheet}
@@ -30,41 +30,120 @@ use Rattle.tag.specs.Result.{Left, firstOf}
 use Rattle.capi.specs.Told.{toldOf, sheetOf}
 use Rattle.tag.specs.Steps.{input}
 
--- a record by state, port and number, and one with a link
+-- a record by state, port and number; by state, round, Q and slot; by its flags; and one with a link
+abbrev made : ℕ → ℕ → ℕ → ℕ → ℕ → ℕ → Record
+made st held n round q slot =
+    record {
+      state = st;
+      held = held;
+      unwritten = 0;
+      killed = 0;
+      covered = 0;
+      half = 0;
+      round = round;
+      q = q;
+      s0 = 0;
+      s1 = 0;
+      s2 = 0;
+      s3 = 0;
+      sl = 0;
+      number = n;
+      cover = 0;
+      upper = 0;
+      slot = slot;
+    }
+
 abbrev of : ℕ → ℕ → ℕ → Record
-of st held n = record { state = st; held = held; unwritten = 0; killed = 0; covered = 0; half = 0; number = n; cover = 0; upper = 0 }
+of st held n = made st held n 0 0 0
+
+abbrev rounds : ℕ → ℕ → ℕ → ℕ → Record
+rounds st round q slot = made st 0 0 round q slot
+
+abbrev flagged : ℕ → ℕ → ℕ → ℕ → ℕ → Record
+flagged a b c d l =
+    record {
+      state = 1;
+      held = 0;
+      unwritten = 0;
+      killed = 0;
+      covered = 0;
+      half = 0;
+      round = 0;
+      q = 0;
+      s0 = a;
+      s1 = b;
+      s2 = c;
+      s3 = d;
+      sl = l;
+      number = 0;
+      cover = 0;
+      upper = 0;
+      slot = 0;
+    }
 
 abbrev linked : ℕ → ℕ → ℕ → ℕ → Record
 linked covered kind c u =
-    record { state = 4; held = 0; unwritten = 1; killed = 0; covered = covered; half = kind; number = 0x1234; cover = c; upper = u }
+    record {
+      state = 6;
+      held = 0;
+      unwritten = 1;
+      killed = 0;
+      covered = covered;
+      half = kind;
+      round = 2;
+      q = 13;
+      s0 = 0;
+      s1 = 0;
+      s2 = 1;
+      s3 = 0;
+      sl = 1;
+      number = 0x1234;
+      cover = c;
+      upper = u;
+      slot = 0;
+    }
 
--- what is a session, and what is not: an unknown state, a number, a cover or a half where none belongs, a truth value that is neither 0
--- nor 1
+-- what is a session, and what is not: an unknown state, a number, a round, a slot, a cover or a half where none belongs, a truth value that
+-- is neither 0 nor 1
 pub record Readings : Type 0 where
   pub whole : sessionOf (linked 1 2 0x5678 0x9ABC)
-      ≡ on (state.Secured (record { handle = 0x1234; cover = cover.Number 0x5678; half = half.Kill 0x9ABC })) false (record { unwritten = true; killed = false })
-  pub unknown : sessionOf (of 6 0 0) ≡ offSession
+      ≡ on (record { s0 = false; s1 = false; s2 = true; s3 = false; sl = true }) (state.Secured (record { round = record { session = 2; q = 13 }; handle = 0x1234; cover = cover.Number 0x5678; half = half.Kill 0x9ABC })) false (record { unwritten = true; killed = false })
+  pub waiting : sessionOf (rounds 2 3 11 0x6789) ≡ newSession (state.Arbitrate (record { session = 3; q = 11 }) 0x6789)
+  pub flags : sessionOf (flagged 1 0 0 1 0) ≡ on (record { s0 = true; s1 = false; s2 = false; s3 = true; sl = false }) state.Ready false clear
+  pub unknown : sessionOf (of 8 0 0) ≡ offSession
   pub stray-number : sessionOf (of 1 0 5) ≡ offSession
-  pub number-killed : sessionOf (of 5 0 5) ≡ offSession
+  pub number-waiting : sessionOf (of 2 0 5) ≡ offSession
+  pub number-killed : sessionOf (of 7 0 5) ≡ offSession
+  pub stray-round : sessionOf (rounds 1 1 0 0) ≡ offSession
+  pub stray-q : sessionOf (rounds 7 0 1 0) ≡ offSession
+  pub stray-slot : sessionOf (rounds 3 1 4 1) ≡ offSession
   pub stray-cover : sessionOf (linked 0 2 0x5678 0x9ABC) ≡ offSession
   pub stray-half : sessionOf (linked 1 0 0x5678 0x9ABC) ≡ offSession
   pub unknown-half : sessionOf (linked 1 3 0x5678 0x9ABC) ≡ offSession
   pub covered-twice : sessionOf (linked 2 2 0x5678 0x9ABC) ≡ offSession
   pub held-twice : sessionOf (of 1 2 0) ≡ offSession
+  pub flag-twice : sessionOf (flagged 0 0 2 0 0) ≡ offSession
 
 pub readings : Readings
 unfolding sessionOf looseOf same
 readings =
     record {
       whole = refl;
+      waiting = refl;
+      flags = refl;
       unknown = refl;
       stray-number = refl;
+      number-waiting = refl;
       number-killed = refl;
+      stray-round = refl;
+      stray-q = refl;
+      stray-slot = refl;
       stray-cover = refl;
       stray-half = refl;
       unknown-half = refl;
       covered-twice = refl;
       held-twice = refl;
+      flag-twice = refl;
     }
 
 -- what each call must leave
@@ -73,9 +152,6 @@ checked = sheetOf (checkOf worked)
 
 abbrev powered : Left Record
 powered = toldOf (firstOf (powerUpOf worked 1))
-
-abbrev admitted : Record → Left Record
-admitted r = toldOf (firstOf (admitOf (sessionOf r) 0x1234))
 
 abbrev heard : Record → Left Record
 heard r = toldOf (firstOf (frameOf changeStores (input (sessionOf r) worked (0xC0 ∷ []) 8 0 [] 0)))
@@ -96,21 +172,17 @@ abbrev written : Record → Left Record
 written r = toldOf (firstOf (writeOf changeStores (sessionOf r) worked 2 (0x11 ∷ 0x22 ∷ []) 5))
 
 pub record Small : Type 0 where
-  pub admit : admitted (of 1 0 0) .session ≡ of 2 0 0x1234
-  pub admit-bad : admitted (of 6 0 0) .number ≡ 5
   pub ask : asked (of 1 0 0) .session .held ≡ 1
   pub ask-bad : asked (of 1 0 5) .number ≡ 5
   pub release : released (of 1 1 0) .session .held ≡ 0
   pub release-bad : released (of 1 2 0) .number ≡ 5
-  pub register : registered (of 5 1 0) .number ≡ 0
-  pub register-bad : registered (of 5 1 5) .number ≡ 5
+  pub register : registered (of 7 1 0) .number ≡ 0
+  pub register-bad : registered (of 7 1 5) .number ≡ 5
 
 pub small : Small
-unfolding sessionOf looseOf same admitOf askOf releaseOf registerOf
+unfolding sessionOf looseOf same askOf releaseOf registerOf
 small =
     record {
-      admit = refl;
-      admit-bad = refl;
       ask = refl;
       ask-bad = refl;
       release = refl;
@@ -124,12 +196,12 @@ pub record Large : Type 0 where
   pub check-user : checked .user .at ≡ 28
   pub power : powered .session .state ≡ 1
   pub power-stores : powered .stores ≡ 1
-  pub frame : heard (of 2 0 0x1234) .session ≡ of 1 0 0
+  pub frame : heard (made 4 0 0x1234 2 13 0) .session ≡ rounds 2 2 13 0
   pub frame-bad : heard (of 9 0 0) .number ≡ 5
   pub read : wordAt (shown (of 1 1 0) .room) 0 ≡ 6
   pub read-bad : shown (of 1 1 7) .number ≡ 5
   pub write : written (of 1 1 0) .stores ≡ 5
-  pub write-bad : written (of 7 1 0) .number ≡ 5
+  pub write-bad : written (of 8 1 0) .number ≡ 5
 
 pub large : Large
 unfolding sessionOf looseOf same checkOf powerUpOf powerStores frameOf readOf writeOf layoutOf headerGood blocksIn contentGood rulesHold worked wordAt withWord wordsBits bitsOf crcOf fieldAt heardOf filled packed
@@ -152,7 +224,7 @@ other : (x a b : ℕ) → x ≡ a → (a ≡ b → ⊥) → x ≡ b → ⊥
 other x a b e n f = n (sym e ∙ f)
 
 -- a half of Access that is written as one of Kill
-pub halves-swapped : recordOf (on (state.Secured (record { handle = 0x1234; cover = cover.Nothing; half = half.Access 0x9ABC })) false clear .power) .half ≡ 2 → ⊥
+pub halves-swapped : recordOf (newSession (state.Secured (record { round = record { session = 0; q = 0 }; handle = 0x1234; cover = cover.Nothing; half = half.Access 0x9ABC })) .power) .half ≡ 2 → ⊥
 halves-swapped = other _ 1 2 refl (λ z. omega (arith, z))
 
 -- a check that refuses the worked image, and one that hides its layout
@@ -169,15 +241,8 @@ power-off = other _ 1 0 (large .power) (λ z. omega (arith, z))
 pub power-lazy : powered .stores ≡ 0 → ⊥
 power-lazy = other _ 1 0 (large .power-stores) (λ z. omega (arith, z))
 
--- an admission that loses its number, and one of an unknown state
-pub admit-loses : admitted (of 1 0 0) .session .number ≡ 0 → ⊥
-admit-loses = other _ 0x1234 0 (ap (λ (r : Record). r .number) (small .admit)) (λ z. omega (arith, z))
-
-pub admit-unknown : admitted (of 6 0 0) .number ≡ 0 → ⊥
-admit-unknown = other _ 5 0 (small .admit-bad) (λ z. omega (arith, z))
-
 -- a NAK that keeps the number, and one to an unknown state
-pub frame-keeps : heard (of 2 0 0x1234) .session .number ≡ 0x1234 → ⊥
+pub frame-keeps : heard (made 4 0 0x1234 2 13 0) .session .number ≡ 0x1234 → ⊥
 frame-keeps = other _ 0 0x1234 (ap (λ (r : Record). r .number) (large .frame)) (λ z. omega (arith, z))
 
 pub frame-unknown : heard (of 9 0 0) .number ≡ 0 → ⊥
@@ -198,10 +263,10 @@ pub release-twice : released (of 1 2 0) .number ≡ 0 → ⊥
 release-twice = other _ 5 0 (small .release-bad) (λ z. omega (arith, z))
 
 -- a register that is not told to its holder, and one told to a stray number
-pub register-refuses : registered (of 5 1 0) .number ≡ 5 → ⊥
+pub register-refuses : registered (of 7 1 0) .number ≡ 5 → ⊥
 register-refuses = other _ 0 5 (small .register) (λ z. omega (arith, z))
 
-pub register-stray : registered (of 5 1 5) .number ≡ 0 → ⊥
+pub register-stray : registered (of 7 1 5) .number ≡ 0 → ⊥
 register-stray = other _ 5 0 (small .register-bad) (λ z. omega (arith, z))
 
 -- a read that shows a zero, and one for a stray number
@@ -215,5 +280,5 @@ read-stray = other _ 5 0 (large .read-bad) (λ z. omega (arith, z))
 pub write-lazy : written (of 1 1 0) .stores ≡ 0 → ⊥
 write-lazy = other _ 5 0 (large .write) (λ z. omega (arith, z))
 
-pub write-unknown : written (of 7 1 0) .number ≡ 0 → ⊥
+pub write-unknown : written (of 8 1 0) .number ≡ 0 → ⊥
 write-unknown = other _ 5 0 (large .write-bad) (λ z. omega (arith, z))

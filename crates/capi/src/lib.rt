@@ -3,7 +3,7 @@ ghost use mathlib.Core.Path.{_≡_};
 ghost use mathlib.Core.List.{[]};
 ghost use Rattle.image.specs.Check.{checkOf};
 ghost use Rattle.tag.specs.Power.{powerUpOf};
-ghost use Rattle.tag.specs.Table.{frameOf, admitOf};
+ghost use Rattle.tag.specs.Table.{frameOf};
 ghost use Rattle.tag.specs.Port.{askOf, releaseOf, registerOf, readOf, writeOf};
 ghost use Rattle.capi.specs.Records.{sessionOf};
 ghost use Rattle.capi.specs.Told.{told, toldOf, sheetOf};
@@ -13,7 +13,7 @@ ghost use Rattle.stores.specs.Stores.{changeStores};
 mod records;
 mod sheets;
 
-// A session: its state, and what that state holds. A number where none belongs is 0.
+// A session: its state, what that state holds, and the flags. A number where none belongs is 0.
 #[repr(C)]
 pub struct Record {
     pub state: u8,
@@ -22,9 +22,17 @@ pub struct Record {
     pub killed: u8,
     pub covered: u8,
     pub half: u8,
+    pub round: u8,
+    pub q: u8,
+    pub s0: u8,
+    pub s1: u8,
+    pub s2: u8,
+    pub s3: u8,
+    pub sl: u8,
     pub number: u16,
     pub cover: u16,
     pub upper: u16,
+    pub slot: u16,
 }
 
 // An outcome: the answer's number, the new session, the reply's length in bits, the stores made, and the register where it was read.
@@ -72,14 +80,6 @@ pub extern "C" fn tag_power_up(image: &mut [u8], s: usize) -> Told
     ensures { λ r. ⌜ told r (now (image .exit)) [] ≡ toldOf (firstOf (powerUpOf (now (image .entry)) s)) ⌝ }
 {
     records::outcome(tag::power_up(image, s))
-}
-
-// An admission with a 16-bit number.
-#[no_mangle]
-pub extern "C" fn tag_admit(session: Record, number: u16) -> Told
-    ensures { λ r. ⌜ told r [] [] ≡ toldOf (firstOf (admitOf (sessionOf session) number)) ⌝ }
-{
-    records::outcome(records::session(session).admit(number))
 }
 
 // A radio frame of n bits, with a fresh random word, a reply room and power for s stores.
@@ -134,7 +134,7 @@ pub extern "C" fn tag_read(
     ensures { λ r. ⌜ told r (now (image .entry)) (now (room .exit)) ≡ toldOf (firstOf (readOf (sessionOf session) (now (image .entry)) at count (now (room .entry)))) ⌝ }
 {
     let h = records::held_row(session);
-    let dead = session.state == 5;
+    let dead = session.state == 7;
     let row = tag::read_words(h, dead, image, at, count, room);
     if row != 0 {
         return records::told(row, records::own(session, h), 0);

@@ -5,18 +5,20 @@ ghost use lib.Dec.{eqb};
 ghost use Rattle.tag.specs.Session.{offSession};
 ghost use Rattle.tag.specs.Port.{bitOf};
 ghost use Rattle.tag.specs.Steps.{heldRow};
-ghost use Rattle.capi.specs.Records.{blank, coverOf, halfOf, linkFrom, onOf, coveredIn, coverIn, halfIn, upperIn, linkedRecord as linkedOf, recordIn, recordOf, sessionOf};
-ghost use Rattle.capi.specs.Steps.{plain as plainOf, linkedState, bareState, stateFrom, nearOf, flagsFit, numbersFit, isBare, stateFits, fitsOf, killedRecord, toldWith};
+ghost use Rattle.capi.specs.Records.{blank, coverOf, halfOf, linkFrom, flagsFrom, onOf, coveredIn, coverIn, halfIn, upperIn, recordWith, recordIn, recordOf, sessionOf};
+ghost use Rattle.capi.specs.Steps.{linkedState, bareState, stateFrom, nearOf, flagsFit, numbersFit, isBare, isIdle, bareFits, stateFits, fitsOf, killedRecord, toldWith};
 ghost use Rattle.capi.specs.Told.{outcomeOf};
 use crate::Record;
 use crate::Told;
 use bits::either;
 use tag::Cover;
+use tag::Flags;
 use tag::Half;
 use tag::Link;
 use tag::Live;
 use tag::Power;
 use tag::Register;
+use tag::Round;
 use tag::Session;
 use tag::State;
 
@@ -51,9 +53,25 @@ fn link(r: Record) -> Link
     ensures { λ k. ⌜ k ≡ linkFrom r ⌝ }
 {
     Link {
+        round: Round {
+            session: r.round,
+            q: r.q,
+        },
         handle: r.number,
         cover: cover(r.covered, r.cover),
         half: half(r.half, r.upper),
+    }
+}
+
+fn flags(r: Record) -> Flags
+    ensures { λ f. ⌜ f ≡ flagsFrom r ⌝ }
+{
+    Flags {
+        s0: r.s0 != 0,
+        s1: r.s1 != 0,
+        s2: r.s2 != 0,
+        s3: r.s3 != 0,
+        sl: r.sl != 0,
     }
 }
 
@@ -63,35 +81,42 @@ fn live(r: Record, state: State) -> Session
 {
     Session {
         power: Power::On(Live {
-            state: state,
             held: r.held != 0,
             register: Register {
                 unwritten: r.unwritten != 0,
                 killed: r.killed != 0,
             },
+            flags: flags(r),
+            state: state,
         }),
     }
 }
 
-// A state that has a link.
+// Open or Secured.
 fn linked_state(state: u8, k: Link) -> State
     ensures { λ s. ⌜ s ≡ linkedState state k ⌝ }
 {
-    if state == 3 {
+    if state == 5 {
         return State::Open(k);
     }
     State::Secured(k)
 }
 
-// A state that has none.
-fn bare_state(state: u8, number: u16) -> State
-    ensures { λ s. ⌜ s ≡ bareState state number ⌝ }
+// A state without a cover.
+fn bare_state(state: u8, round: Round, number: u16, slot: u16) -> State
+    ensures { λ s. ⌜ s ≡ bareState state round number slot ⌝ }
 {
     if state == 2 {
-        return State::Acknowledged(number);
+        return State::Arbitrate(round, slot);
+    }
+    if state == 3 {
+        return State::Reply(round, number);
+    }
+    if state == 4 {
+        return State::Acknowledged(round, number);
     }
     if state == 1 {
-        return State::Arbitrate;
+        return State::Ready;
     }
     State::Killed
 }
@@ -100,10 +125,10 @@ fn bare_state(state: u8, number: u16) -> State
 fn state_of(r: Record, k: Link) -> State
     ensures { λ s. ⌜ s ≡ stateFrom r k ⌝ }
 {
-    if either(r.state == 3, r.state == 4) {
+    if either(r.state == 5, r.state == 6) {
         return linked_state(r.state, k);
     }
-    bare_state(r.state, r.number)
+    bare_state(r.state, k.round, r.number, r.slot)
 }
 
 // The session under power that a record comes nearest to.
@@ -117,24 +142,6 @@ fn bit(b: bool) -> u8
     ensures { λ r. ⌜ r ≡ bitOf b ⌝ }
 {
     if b { 1 } else { 0 }
-}
-
-// The record of a state that has no link.
-fn plain(l: Live, state: u8, number: u16) -> Record
-    ensures { λ r. ⌜ r ≡ plainOf l state number ⌝ }
-{
-    let register = l.register;
-    Record {
-        state: state,
-        held: bit(l.held),
-        unwritten: bit(register.unwritten),
-        killed: bit(register.killed),
-        covered: 0,
-        half: 0,
-        number: number,
-        cover: 0,
-        upper: 0,
-    }
 }
 
 fn is_covered(c: Cover) -> u8
@@ -175,11 +182,13 @@ fn upper_in(h: Half) -> u16
     }
 }
 
-// The record of a state that has one.
-fn linked(l: Live, state: u8, k: Link) -> Record
-    ensures { λ r. ⌜ r ≡ linkedOf l state k ⌝ }
+// The record of a state: its number, what it holds and its slot, with port, register and flags.
+fn written(l: Live, state: u8, k: Link, slot: u16) -> Record
+    ensures { λ r. ⌜ r ≡ recordWith l state k slot ⌝ }
 {
     let register = l.register;
+    let flags = l.flags;
+    let round = k.round;
     let cover = k.cover;
     let half = k.half;
     Record {
@@ -189,9 +198,17 @@ fn linked(l: Live, state: u8, k: Link) -> Record
         killed: bit(register.killed),
         covered: is_covered(cover),
         half: half_in(half),
+        round: round.session,
+        q: round.q,
+        s0: bit(flags.s0),
+        s1: bit(flags.s1),
+        s2: bit(flags.s2),
+        s3: bit(flags.s3),
+        sl: bit(flags.sl),
         number: k.handle,
         cover: cover_in(cover),
         upper: upper_in(half),
+        slot: slot,
     }
 }
 
@@ -199,13 +216,12 @@ fn under_power(l: Live) -> Record
     ensures { λ r. ⌜ r ≡ recordIn l (l .state) ⌝ }
 {
     let state = l.state;
-    match state {
-        State::Arbitrate => plain(l, 1, 0),
-        State::Acknowledged(n) => plain(l, 2, n),
-        State::Open(k) => linked(l, 3, k),
-        State::Secured(k) => linked(l, 4, k),
-        State::Killed => plain(l, 5, 0),
-    }
+    written(
+        l,
+        states::state_number(state),
+        states::link_of(state),
+        states::slot_of(state),
+    )
 }
 
 fn without_power() -> Record
@@ -218,9 +234,17 @@ fn without_power() -> Record
         killed: 0,
         covered: 0,
         half: 0,
+        round: 0,
+        q: 0,
+        s0: 0,
+        s1: 0,
+        s2: 0,
+        s3: 0,
+        sl: 0,
         number: 0,
         cover: 0,
         upper: 0,
+        slot: 0,
     }
 }
 
@@ -239,7 +263,7 @@ fn record_of(s: Session) -> Record
 fn flags_fit(r: Record) -> bool
     ensures { λ b. ⌜ b ≡ flagsFit r ⌝ }
 {
-    (r.held | r.unwritten | r.killed | r.covered) <= 1
+    (r.held | r.unwritten | r.killed | r.covered | r.s0 | r.s1 | r.s2 | r.s3 | r.sl) <= 1
 }
 
 // A cover number and an upper half are 0 where there is none, and the half is one of three.
@@ -264,25 +288,49 @@ fn is_bare(r: Record) -> bool
     ((r.covered | r.half) as u16 | r.cover | r.upper) == 0
 }
 
+// No round, no slot and no number.
+fn is_idle(r: Record) -> bool
+    ensures { λ b. ⌜ b ≡ isIdle r ⌝ }
+{
+    ((r.round | r.q) as u16 | r.number | r.slot) == 0
+}
+
+// Of slot, number and round a state without a cover holds only what belongs to it.
+fn bare_fits(r: Record) -> bool
+    ensures { λ b. ⌜ b ≡ bareFits r ⌝ }
+{
+    let state = r.state;
+    if state == 2 {
+        return r.number == 0;
+    }
+    if either(state == 3, state == 4) {
+        return r.slot == 0;
+    }
+    is_idle(r)
+}
+
 // A state holds only what belongs to it.
 fn state_fits(r: Record) -> bool
     ensures { λ b. ⌜ b ≡ stateFits r ⌝ }
 {
     let state = r.state;
-    if either(state == 3, state == 4) {
+    if either(state == 5, state == 6) {
+        if r.slot != 0 {
+            return false;
+        }
         return numbers_fit(r);
     }
     if !is_bare(r) {
         return false;
     }
-    either(state == 2, r.number == 0)
+    bare_fits(r)
 }
 
 // The record is that of a session under power.
 fn fits(r: Record) -> bool
     ensures { λ b. ⌜ b ≡ fitsOf r ⌝ }
 {
-    if either(r.state == 0, 5 < r.state) {
+    if either(r.state == 0, 7 < r.state) {
         return false;
     }
     if !flags_fit(r) {
@@ -350,9 +398,17 @@ pub fn with_killed(r: Record) -> Record
         killed: 1,
         covered: r.covered,
         half: r.half,
+        round: r.round,
+        q: r.q,
+        s0: r.s0,
+        s1: r.s1,
+        s2: r.s2,
+        s3: r.s3,
+        sl: r.sl,
         number: r.number,
         cover: r.cover,
         upper: r.upper,
+        slot: r.slot,
     }
 }
 

@@ -1,4 +1,4 @@
-// Plays how a gate writes a loan entry and the power is cut: a line for each number of stores made before the cut, and for each store torn by it (RULES 8.4).
+// Plays how a reader finds the tag, and how a gate writes a loan entry and the power is cut: a line for each number of stores made before the cut, and for each store torn by it (RULES 8.4).
 ghost use Prim.Native.Nat.{_<_};
 
 mod playing;
@@ -7,6 +7,13 @@ mod showing;
 use playing::Half;
 use playing::Seen;
 use showing::Sum;
+use tag::Session;
+
+// How a step of finding the tag went: the session after it, or an answer that the story doesn't have.
+enum Stepped {
+    To(Session),
+    Failed,
+}
 
 // How a cut went: what the engine saw, or an answer that the story doesn't have.
 enum Played {
@@ -24,6 +31,49 @@ enum Written {
 enum Summed {
     To(Sum),
     Failed,
+}
+
+// Step i of finding the tag, with its line.
+fn step(i: usize, session: Session, image: &mut [u8; 156], room: &mut [u8; 8]) -> Stepped {
+    let o = playing::step(i, session, image, room);
+    let answer = o.answer;
+    if tag::number(answer) != 0 {
+        showing::lost(playing::sent_at(i), tag::number(answer));
+        return Stepped::Failed;
+    }
+    let after = o.session;
+    showing::step(playing::sent_at(i), after, o.reply, room);
+    Stepped::To(after)
+}
+
+// The steps to ACK, whose reply is in the room then.
+fn acknowledged(image: &mut [u8; 156], room: &mut [u8; 8]) -> Stepped {
+    let mut session = playing::powered(image);
+    let mut i = 0;
+    while i < 5 {
+        let Stepped::To(after) = step(i, session, image, room) else {
+            return Stepped::Failed;
+        };
+        session = after;
+        i += 1;
+    }
+    Stepped::To(session)
+}
+
+// Finds the tag of the worked image: whether every step was answered 0.
+fn found() -> bool {
+    let mut image = [0u8; 156];
+    playing::lay(&mut image);
+    let mut told = [0u8; 8];
+    let Stepped::To(session) = acknowledged(&mut image, &mut told) else {
+        return false;
+    };
+    let mut room = [0u8; 8];
+    let Stepped::To(_) = step(5, session, &mut image, &mut room) else {
+        return false;
+    };
+    showing::found(&told);
+    true
 }
 
 // The number that a write of 23 stores is answered with power for k of them.
@@ -119,6 +169,10 @@ fn torn(k: usize, sum: Sum) -> Summed
 
 // The sums stand only under cuts that all went as told.
 fn main() {
+    showing::finding();
+    if !found() {
+        return;
+    }
     showing::heading();
     let mut stores = showing::begin();
     let mut bytes = showing::begin();

@@ -2,6 +2,7 @@
 ghost use Prim.Native.Nat.{_+_, _<_};
 ghost use lib.ListN.{length};
 use tag::Outcome;
+use tag::Session;
 
 // Where USER and WORK stand in the worked image (RULES 6.1).
 const USER: usize = 28;
@@ -17,6 +18,14 @@ pub enum Seen {
     Old,
     New,
     Mixed,
+}
+
+// What a reader sends to find the tag.
+pub enum Sent {
+    Query,
+    QueryRep,
+    Ack,
+    ReqRn,
 }
 
 // The two bytes of a word; the high one stands first.
@@ -108,19 +117,80 @@ pub fn bank(image: &[u8; 156]) -> Seen {
     judged(&words)
 }
 
-// The gate is admitted with the number 1234h, gets the handle A5C3h by Req_RN, and writes the new entry by BlockWrite with power for k stores.
-// A step that is refused leaves the next refused too, so the last answer tells.
+// Power-up, before a reader looks for the tag.
+pub fn powered(image: &mut [u8; 156]) -> Session {
+    let up = tag::power_up(image, 100);
+    up.session
+}
+
+// What the reader sends, step by step: a Query, three QueryReps, an ACK and a Req_RN.
+pub fn sent_at(i: usize) -> Sent {
+    match i {
+        0 => Sent::Query,
+        4 => Sent::Ack,
+        5 => Sent::ReqRn,
+        _ => Sent::QueryRep,
+    }
+}
+
+// Its frame, and how many bits that has: Q = 2 in session S0, and the number 613ah.
+fn frame_of(s: Sent) -> [u8; 5] {
+    match s {
+        Sent::Query => [0x80, 0x01, 0x08, 0, 0],
+        Sent::QueryRep => [0, 0, 0, 0, 0],
+        Sent::Ack => [0x58, 0x4e, 0x80, 0, 0],
+        Sent::ReqRn => [0xc1, 0x61, 0x3a, 0x8d, 0xa6],
+    }
+}
+
+fn bits_of(s: Sent) -> usize {
+    match s {
+        Sent::Query => 22,
+        Sent::QueryRep => 4,
+        Sent::Ack => 18,
+        Sent::ReqRn => 40,
+    }
+}
+
+// The word that the tag draws at each step.
+fn drawn(i: usize) -> u16 {
+    match i {
+        0 => 0x7ad7,
+        1 => 0x2c90,
+        2 => 0xe41b,
+        3 => 0x613a,
+        4 => 0,
+        _ => 0xa5c3,
+    }
+}
+
+// Step i of finding the tag, its reply to the room.
+pub fn step(i: usize, session: Session, image: &mut [u8; 156], room: &mut [u8; 8]) -> Outcome {
+    let s = sent_at(i);
+    let frame = frame_of(s);
+    session.frame(image, &frame, bits_of(s), drawn(i), room, 0)
+}
+
+// The session of the tag found; a step that is refused leaves Req_RN refused too.
+fn found(image: &mut [u8; 156]) -> Session {
+    let mut room = [0u8; 8];
+    let mut session = powered(image);
+    let mut i = 0;
+    while i < 6 {
+        let o = step(i, session, image, &mut room);
+        let after = o.session;
+        session = after;
+        i += 1;
+    }
+    session
+}
+
+// The gate finds the tag, which gives it the handle A5C3h, and writes the new entry by BlockWrite with power for k stores; the last answer tells.
 pub fn write(image: &mut [u8; 156], k: usize) -> Outcome {
-    let request = b"\xc1\x12\x34\x31\x62";
     let order =
         b"\xc7\xc0\x01\xc0\x00\x80\x00\xc0\x01\x40\x03\x00\x12\x06\x89\x40\x00\x29\x70\xfa\x37\x00";
     let mut room = [0u8; 8];
-    let up = tag::power_up(image, 100);
-    let off = up.session;
-    let admitted = off.admit(0x1234);
-    let known = admitted.session;
-    let opened = known.frame(image, request, 40, 0xa5c3, &mut room, 0);
-    let linked = opened.session;
+    let linked = found(image);
     linked.frame(image, order, 170, 0, &mut room, k)
 }
 
@@ -156,8 +226,7 @@ pub fn torn(image: &[u8; 156], k: usize) -> u16 {
 
 // The reader powers up, and the engine reads the entry into the room; the last answer tells here too.
 pub fn read(image: &mut [u8; 156], room: &mut [u8; 14]) -> Outcome {
-    let up = tag::power_up(image, 100);
-    let free = up.session;
+    let free = powered(image);
     let asked = free.ask();
     let held = asked.session;
     held.read(image, 0, 7, room)

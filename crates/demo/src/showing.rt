@@ -2,7 +2,11 @@
 use crate::playing;
 use crate::playing::Half;
 use crate::playing::Seen;
+use crate::playing::Sent;
 use libc::STDOUT_FILENO;
+use tag::Power;
+use tag::Session;
+use tag::State;
 
 // How often the engine saw which entry.
 pub struct Sum {
@@ -40,6 +44,116 @@ fn entry(words: &[u16; 7]) {
         word(words[i]);
         i += 1;
     }
+}
+
+// How the tag is found, before the first step.
+pub fn finding() {
+    text(
+        b"A bench reader looks for the tag: a Query with Q = 2, then QueryReps until the tag replies. The tag\n",
+    );
+    text(
+        b"takes its slot from the low two bits of a random word, counts it down at each QueryRep, and replies\n",
+    );
+    text(
+        b"with a random word when it comes to 0. ACK brings the PC, the EPC and their CRC-16, Req_RN a handle.\n",
+    );
+    text(b"\nsent          state         slot  the tag replies\n");
+}
+
+fn sent(s: Sent) {
+    match s {
+        Sent::Query => text(b"Query, Q = 2  "),
+        Sent::QueryRep => text(b"QueryRep      "),
+        Sent::Ack => text(b"ACK           "),
+        Sent::ReqRn => text(b"Req_RN        "),
+    }
+}
+
+// A slot in its column.
+fn slot(n: u16) {
+    if n < 10 {
+        text(b" ");
+    }
+    if n < 100 {
+        text(b" ");
+    }
+    if n < 1000 {
+        text(b" ");
+    }
+    number(n as u64);
+}
+
+// A state's name, and its slot where it has one.
+fn state(s: State) {
+    match s {
+        State::Ready => text(b"ready            -"),
+        State::Arbitrate(_, n) => {
+            text(b"arbitrate     ");
+            slot(n);
+        }
+        State::Reply(_, _) => text(b"reply            -"),
+        State::Acknowledged(_, _) => text(b"acknowledged     -"),
+        State::Open(_) => text(b"open             -"),
+        State::Secured(_) => text(b"secured          -"),
+        State::Killed => text(b"killed           -"),
+    }
+}
+
+fn session(s: Session) {
+    let power = s.power;
+    match power {
+        Power::Off => text(b"off              -"),
+        Power::On(l) => {
+            let now = l.state;
+            state(now);
+        }
+    }
+}
+
+// The words of a room from one to before another, each after a space.
+fn words(room: &[u8; 8], from: usize, end: usize) {
+    let mut i = from;
+    while i < end {
+        if i < 4 {
+            word(bits::word(room, i));
+        }
+        i += 1;
+    }
+}
+
+// A step of finding the tag: what was sent, the session, and the words of the reply.
+pub fn step(s: Sent, after: Session, reply: usize, room: &[u8; 8]) {
+    sent(s);
+    session(after);
+    text(b" ");
+    if reply == 0 {
+        text(b" nothing");
+    }
+    words(room, 0, reply / 16);
+    text(b"\n");
+}
+
+// What ACK brought: the PC, the EPC, and a CRC-16 that is not shown.
+pub fn found(room: &[u8; 8]) {
+    text(b"\nThe tag is found: PC");
+    words(room, 0, 1);
+    text(b", EPC");
+    words(room, 1, 3);
+    text(b".\n\n");
+}
+
+// A step of finding the tag that was not answered 0.
+pub fn lost(s: Sent, answer: u8) {
+    text(b"\nFAILED: ");
+    match s {
+        Sent::Query => text(b"the reader's Query"),
+        Sent::QueryRep => text(b"the reader's QueryRep"),
+        Sent::Ack => text(b"the reader's ACK"),
+        Sent::ReqRn => text(b"the reader's Req_RN"),
+    }
+    text(b" was answered ");
+    number(answer as u64);
+    text(b"\n");
 }
 
 pub fn heading() {

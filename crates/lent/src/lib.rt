@@ -2,7 +2,7 @@
 ghost use mathlib.Core.Path.{_≡_};
 ghost use mathlib.Core.List.{[]};
 ghost use Rattle.tag.specs.Power.{powerUpOf};
-ghost use Rattle.tag.specs.Table.{frameOf, admitOf};
+ghost use Rattle.tag.specs.Table.{frameOf};
 ghost use Rattle.tag.specs.Port.{askOf, releaseOf, registerOf, readOf, writeOf};
 ghost use Rattle.tag.specs.Result.{result, firstOf};
 ghost use Rattle.stores.specs.Stores.{changeStores};
@@ -37,14 +37,6 @@ pub fn register(session: &mut Session) -> Outcome
     ensures { λ r. ⌜ (result r [] [] ≡ firstOf (registerOf (now (session .entry)))) × (now (session .exit) ≡ r .session) ⌝ }
 {
     let o = (*session).register();
-    *session = o.session;
-    o
-}
-
-pub fn admit(session: &mut Session, number: u16) -> Outcome
-    ensures { λ r. ⌜ (result r [] [] ≡ firstOf (admitOf (now (session .entry)) number)) × (now (session .exit) ≡ r .session) ⌝ }
-{
-    let o = (*session).admit(number);
     *session = o.session;
     o
 }

@@ -1,4 +1,4 @@
--- `capi::records::state_of` meets its contract: with its link or without. Assumes nothing.
+-- `capi::records::state_of` meets its contract: with its link or without a cover. Assumes nothing.
 use Rattle.capi.specs.Steps.{stateFrom}
 use borrow.Author.Needs.{needs}
 use Rattle.capi.proofs.records.state_of.Statement.{statement}
@@ -6,11 +6,17 @@ use Rattle.capi.proofs.records.state_of.Tie as tie
 
 returns : tie.Need-returns
 unfolding stateFrom
-returns c = simp (← c .before .before .either .ensures, c .before .if1 .taken) (c .linked-state .ensures)
+returns c =
+    rw (c .linked-state .ensures)
+    (simp (← c .before .before .either .ensures, c .before .if1 .taken))
 
 returns-2 : tie.Need-returns-2
 unfolding stateFrom
-returns-2 c = simp (← c .before .before .either .ensures, c .before .if1 .left) (c .bare-state .ensures)
+returns-2 c =
+    rw (c .bare-state .ensures)
+    (simp (← c .before .before .either .ensures, c .before .if1 .left))
 
 pub state-of-spec : {M : Type 1} → statement M
-state-of-spec = tie.close (tie.spec (search needs) (search needs) returns (search needs) returns-2)
+state-of-spec =
+    tie.close
+    (tie.spec (λ c κs. search needs) (λ c κs. search needs) returns (λ c κs. search needs) returns-2)
