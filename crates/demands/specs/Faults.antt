@@ -5,11 +5,12 @@
 --   hears frames while the port is held      Refusals: unready .held
 --   answers 9 before 8            Refusals: unheard .checksum
 --   uses up no cover number       Demand 2: radio .write
+--   matches a Query by the flag as it was before it is inverted       Demand 2: radio .rounds .query-passes
 use Prim.Native.Nat.{ℕ, suc, _-_}
 use mathlib.Core.Path.{_≡_, refl, sym, ap, _∙_}
-use mathlib.Core.Logic.{_≢_, inl}
-use mathlib.Core.Bool.{Bool, true, false, cond}
-use lib.Dec.{eqb}
+use mathlib.Core.Logic.{_≢_, inl, ⊎-elim}
+use mathlib.Core.Bool.{Bool, true, false, false≢true, cond, _&&_}
+use lib.Dec.{eqb, lit≤}
 use mathlib.Core.List.{List, _++_}
 use native.Mathlib.Omega.{arith}
 use lib.ListN.{take, drop}
@@ -17,6 +18,7 @@ use Rattle.bits.specs.Words.{wordAt, withWord}
 use Rattle.bits.specs.Bits.{fieldAt, bitsOf, wordsBits, bitsFrom}
 use Rattle.bits.specs.First.{first}
 use Rattle.crc.specs.Crc.{crcOf}
+use Rattle.crc.specs.Crc5.{crc5Of}
 use Rattle.ebv.specs.Ebv.{pointerAt}
 use Rattle.image.specs.Layout.{layoutOf, headerGood, blocksIn}
 use Rattle.image.specs.Content.{rulesHold, contentGood}
@@ -24,7 +26,7 @@ use Rattle.image.specs.Worked.{worked, workedLayout}
 use Rattle.frames.specs.declared.Order.the-variants as order
 use Rattle.frames.specs.Message.{Message}
 use Rattle.frames.specs.Message as heard
-use Rattle.frames.specs.Frames.{span, heardOf, checksumRight}
+use Rattle.frames.specs.Frames.{span, heardOf, checksumRight, checksum5Right}
 use Rattle.replies.specs.Pack.{filled, packed}
 use Rattle.replies.specs.Replies.{checked}
 use Rattle.rights.specs.Rights.{writeCode}
@@ -35,14 +37,15 @@ use Rattle.states.specs.declared.Link.{Link}
 use Rattle.tag.specs.declared.Session.{Session}
 use Rattle.states.specs.Commands.{linkOf, withLink, isCovered}
 use Rattle.tag.specs.Result.{Result, firstOf}
-use Rattle.tag.specs.Table.{Input, liveOf, movedTo, frameOf}
+use Rattle.tag.specs.Table.{Input, everything, live, liveOf, turnedTo, movedTo, frameOf}
 use Rattle.tag.specs.Port.{bitOf}
 use Rattle.demands.specs.Calls.{awake, Program}
 use Rattle.demands.specs.Commands.{Demand2, answersTo, link}
+use Rattle.demands.specs.Facts.{Matches}
 use Rattle.demands.specs.Refusals.{Refusals}
-use Rattle.demands.specs.Worked.{write3, round}
+use Rattle.demands.specs.Worked.{query0, write3, round}
 use Rattle.demands.specs.Answers.{badSum}
-use Rattle.demands.specs.Met.{air, met, access}
+use Rattle.demands.specs.Met.{air, met, access, once, s2B}
 use Rattle.demands.specs.Empty.{framing, fresh, opened, must-write}
 use Rattle.tag.specs.Steps.{input}
 use Rattle.stores.specs.Stores.{changeStores}
@@ -94,9 +97,24 @@ abbrev pub keepsCover : Program
 keepsCover =
     framing (λ i. let r = firstOf (frameOf changeStores i) in record { number = r .number; session = i .session; reply = r .reply; stores = r .stores; value = 0; image = r .image; room = r .room })
 
+-- what a tag in Ready, which inverts no flag, comes to by a Query; but with the flags of the right answer
+abbrev early : Input → Result
+early i = firstOf (frameOf changeStores (input (movedTo (live i) state.Ready) (i .image) (i .frame) (i .bits) (i .fresh) (i .room) (i .power)))
+
+abbrev mixed : Input → Result → Result → Result
+mixed i r e =
+    let l = liveOf (e .session .power) in
+    let s = turnedTo l (liveOf (r .session .power) .flags) (l .state) in
+    cond (eqb (e .number) 0)
+    (record { number = 0; session = s; reply = e .reply; stores = e .stores; value = 0; image = e .image; room = e .room })
+    (everything i (e .number))
+
+abbrev pub matchesEarly : Program
+matchesEarly =
+    framing (λ i. let r = firstOf (frameOf changeStores i) in cond (eqb (fieldAt (i .frame) 0 4) 8 && eqb (r .number) 0) (mixed i r (early i)) r)
+
 -- named inputs: a second half of Access in Secured, where 1111h waits as the upper half of the password 00000000h; P7's Write with
--- another CRC-16, with another
--- handle, and while the port is held
+-- another CRC-16, with another handle, and while the port is held; a Query of session 2, target A, in Acknowledged of that session
 abbrev waiting : Session
 waiting = awake (state.Secured (link round 0x1234 (cover.Number 0x5A5A) (half.Access 0x1111))) false fresh
 
@@ -106,6 +124,9 @@ other = awake (state.Open (link round 0x4321 (cover.Number 0x5A5A) half.Nothing)
 abbrev arbitrate : Session
 arbitrate = awake (state.Arbitrate round 3) false fresh
 
+abbrev acknowledged : Session
+acknowledged = awake (state.Acknowledged round 0xBEEF) false fresh
+
 record Numbers : Type 0 where
   password : answersTo takesAnyPassword (air access 56) waiting .number ≡ 0
   handle : answersTo ignoresHandle (air write3 66) other .number ≡ 0
@@ -113,10 +134,11 @@ record Numbers : Type 0 where
   held : answersTo hearsWhileHeld (air write3 66) (awake (state.Open (link round 0x1234 (cover.Number 0x5A5A) half.Nothing)) true fresh) .number ≡ 0
   first : answersTo nineBeforeEight (air badSum 66) arbitrate .number ≡ 9
   wrong : heardOf badSum 66 ≡ heard.refused 8
+  flag : answersTo matchesEarly (air query0 22) acknowledged .reply ≡ 16
 
 numbers : Numbers
-unfolding frameOf layoutOf headerGood blocksIn contentGood rulesHold worked wordAt withWord wordsBits bitsOf crcOf fieldAt pointerAt heardOf checksumRight filled packed checked writeCode write3 access
-numbers = record { password = refl; handle = refl; checksum = refl; held = refl; first = refl; wrong = refl }
+unfolding frameOf layoutOf headerGood blocksIn contentGood rulesHold worked wordAt withWord wordsBits bitsOf crcOf fieldAt pointerAt heardOf checksumRight checksum5Right crc5Of filled packed checked writeCode query0 write3 access
+numbers = record { password = refl; handle = refl; checksum = refl; held = refl; first = refl; wrong = refl; flag = refl }
 
 -- the handle is 1234h, not 4321h; the password's upper half is 0, not 1111h
 other-handle : _≢_ {A = ℕ} 0x1234 0x4321
@@ -161,6 +183,21 @@ order-caught d =
     let z : _≡_ {A = ℕ} 9 8 =
     sym (numbers .first)
     ∙ ap (λ (r : Result). r .number) (d .unheard workedLayout (air badSum 66) (state.Arbitrate round 3) fresh (met .idle) .checksum (numbers .wrong)) in
+    omega arith
+
+-- S2 is B once it is inverted, and the target is A
+not-A : Matches s2B 0 0 2 → ⊥
+not-A h = ⊎-elim (λ p. false≢true (sym (p .1))) (λ p. omega (arith, p .0)) (h .1)
+
+not-killed : state.Acknowledged round 0xBEEF ≢ state.Killed
+not-killed e = let z : _≡_ {A = ℕ} 0 1 = cc in omega arith
+
+pub flag-caught : Demand2 matchesEarly → ⊥
+flag-caught d =
+    let z : _≡_ {A = ℕ} 16 0 =
+    sym (numbers .flag)
+    ∙ ap (λ (r : Result). r .reply)
+    (d .radio workedLayout (air query0 22) fresh round (met .idle) .rounds .query-passes (state.Acknowledged round 0xBEEF) 0 0 once s2B not-killed (met .rounds .first-inverts) not-A (met .rounds .query-replies .0) (lit≤ tt, lit≤ tt)) in
     omega arith
 
 -- a session's cover number: there or not
