@@ -36,7 +36,7 @@ use Rattle.tag.specs.Steps.{input, gives}
 use Rattle.demands.specs.Cases.{Case, p, Hold}
 use Rattle.demands.specs.Worked.{query0, round}
 
--- FRAMES. Query of session 2: target A with Q = 2, target B, and for tags whose SL is deasserted or asserted; of session 1; all with Q = 0
+-- FRAMES. Query of session 2, target A, with Q = 2; with Q = 0 target B, and target A for tags whose SL is deasserted, or asserted; of session 1
 unfoldable pub query2 : List ℕ
 query2 = 0x80 ∷ 0x21 ∷ 0x34 ∷ []
 
