@@ -10,6 +10,7 @@ pub mod Fields
 pub mod Images
 pub mod Terms
 pub mod Codes
+pub mod Bounds
 pub mod Tables
 pub mod Rounds
 pub mod Commands

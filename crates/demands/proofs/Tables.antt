@@ -41,6 +41,7 @@ use Rattle.tag.specs.Port.{askOf, releaseOf, registerOf, readBits, readOf, writ
 use Rattle.demands.specs.Calls.{Call, powerUp, frame, ask, release, register, read, write, Tag, answerOf, sessionIn, imageIn, roomIn, powerIn, storesIn, valueIn, answersIn}
 use Rattle.demands.specs.Demands.{refuses, AnErrorCode, Tabled, Checks, orderIn, numbersOf, Under, Exact, Demand1}
 use Rattle.demands.proofs.Rows.{Rows, Each, first-each}
+use Rattle.demands.proofs.Bounds.{bounds-so}
 
 refusal-small : (n : ℕ) → refuses n ≡ true → n ≤ 13
 refusal-small n e =
@@ -336,4 +337,5 @@ demand-1 =
       one = λ t c p q m n a b e f. one-outcome p q m n a b (answerOf t c) e f;
       table = tabled;
       exact = exact;
+      bounds = bounds-so;
     }

@@ -176,6 +176,12 @@ terms-so =
       row-none = λ m i. refl;
       counted = λ f n. refl;
       counted-none = λ f. refl;
+      each = λ t n. refl;
+      each-none = λ t. refl;
+      run = λ m i n. refl;
+      run-none = λ m i. refl;
+      bytes = λ m h. h;
+      torn = λ j n m. refl;
       crc = crc-so;
       crc5 = crc5-so;
       flags = λ f. record { read = (refl, refl, refl, refl, refl); set = set-so f; kept = kept-so f };
@@ -202,6 +208,9 @@ terms-so =
       under = λ f st held r. refl;
       new-flags = refl;
       fell = λ q n k. (refl, refl, refl, refl, refl);
+      spanned = λ b p c. refl;
+      plain = λ q h. refl;
+      outcome = λ o m room. refl;
       leaving = λ n s m room. refl;
       giving = λ n s k j m room. refl;
     }

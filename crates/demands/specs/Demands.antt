@@ -1,6 +1,6 @@
 -- What the buyer asked for (RULES D1 to D3), as statements of any program A. Their proofs of the tag: `demand-1`, `demand-2`, `demand-3`
 -- and `any-run` in proofs/. Assumes nothing.
-use Prim.Native.Nat.{ℕ, _+_, _*_, _/_, _≤_, _<_}
+use Prim.Native.Nat.{ℕ, _+_, _*_, _/_, _^_, _≤_, _<_}
 use mathlib.Core.Path.{_≡_}
 use mathlib.Core.Logic.{_⊎_}
 use mathlib.Core.Bool.{Bool, true, false, cond, _||_}
@@ -21,6 +21,11 @@ use Rattle.rights.specs.declared.Code.{Code}
 use Rattle.rights.specs.declared.Code.the-variants as code
 use Rattle.rights.specs.Rights.{pwdBit, permaBit, faultNumber}
 use Rattle.stores.specs.Cuts.{Cut, reaches}
+use Rattle.frames.specs.declared.Round.{Round}
+use Rattle.states.specs.declared.State.{State}
+use Rattle.states.specs.declared.State.the-variants as state
+use Rattle.tag.specs.declared.Power.{Power}
+use Rattle.tag.specs.declared.Power.the-variants as power
 use Rattle.tag.specs.declared.Session.{Session}
 use Rattle.tag.specs.declared.Outcome.{Outcome}
 use Rattle.tag.specs.Session.{offSession}
@@ -106,12 +111,31 @@ pub record Exact (A : Program) (t : Tag) (c : Call) : Type 0 where
   pub zero : answersIn t c .done .number ≡ 0
   pub under : Under (answersIn t c .rows) (answersIn t c .done) (A t c)
 
+-- 11.2: the numbers of a round and of a slot within their bounds; what a session holds
+abbrev pub Bounded : Round → Type 0
+Bounded q = (q .session < 4) × (q .q < 16)
+
+abbrev pub Reachable : State → Type 0
+Reachable state.Ready = Unit {0}
+Reachable (state.Arbitrate q slot) = Bounded q × (slot < 2 ^ 15)
+Reachable (state.Reply q n) = Bounded q
+Reachable (state.Acknowledged q n) = Bounded q
+Reachable (state.Open k) = Bounded (k .round)
+Reachable (state.Secured k) = Bounded (k .round)
+Reachable state.Killed = Unit {0}
+
+abbrev pub Reached : Power → Type 0
+Reached power.Off = Unit {0}
+Reached (power.On l) = Reachable (l .state)
+
 pub record Demand1 (A : Program) : Type 0 where
   pub check : (m : List ℕ) (p q : Fit) → meaning p ≡ checkOf m → meaning q ≡ checkOf m → p ≡ q
   pub checks : (m : List ℕ) → Checks m
   pub one : (t : Tag) (c : Call) (p q : Outcome) (m n a b : List ℕ) → Meets A t c p m a → Meets A t c q n b → (p ≡ q) × (m ≡ n) × (a ≡ b)
   pub table : (t : Tag) (c : Call) → Tabled t c (A t c)
   pub exact : (t : Tag) (c : Call) → Exact A t c
+  -- no call leaves these bounds; power-up, which asks for no session, comes to them
+  pub bounds : (t : Tag) (c : Call) → Reached (sessionIn t c .power) → Reached (A t c .session .power)
 
 -- DEMAND 2 stands in `Commands`: command by command.
 

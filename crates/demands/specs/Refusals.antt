@@ -64,7 +64,7 @@ abbrev pub Covered : Cover → Type 0
 Covered cover.Nothing = ⊥
 Covered (cover.Number n) = Unit {0}
 
--- a command to the tag with its number: not one of the six that go to every tag
+-- a command to the tag with its number: not NAK and none of inventory, which carry no number before a CRC-16
 abbrev pub Addressed : Order → Type 0
 Addressed (order.QueryRep k) = ⊥
 Addressed (order.Ack n) = ⊥
@@ -135,7 +135,7 @@ pub record Unready (A : Program) (a : Air) : Type 0 where
   pub pends : (y : Layout) (s : Session) → checkOf (a .image) ≡ good y → countIn y (a .image) ≢ 0 → answersTo A a s ≡ stays 5 a s
   pub held : (y : Layout) (st : State) (r : Aside) → Idle y (a .image) → answersTo A a (awake st true r) ≡ stays 6 a (awake st true r)
 
--- 7 and 8: a frame that is none, or has a wrong CRC-16
+-- 7 and 8: a frame that is none, or has a wrong CRC-16 or CRC-5
 pub record Unheard (A : Program) (a : Air) (st : State) (r : Aside) : Type 0 where
   pub malformed : heardOf (a .frame) (a .bits) ≡ heard.refused 7 → answersTo A a (awake st false r) ≡ stays 7 a (awake st false r)
   pub checksum : heardOf (a .frame) (a .bits) ≡ heard.refused 8 → answersTo A a (awake st false r) ≡ stays 8 a (awake st false r)

@@ -3,13 +3,13 @@
 use Prim.Native.Nat.{ℕ, suc, _+_, _-_, _*_, _/_, _%_, _^_, _≤_, _<_}
 use mathlib.Core.Path.{_≡_}
 use mathlib.Core.Logic.{_≢_}
-use mathlib.Core.Bool.{Bool, true, false, cond, not}
+use mathlib.Core.Bool.{Bool, true, false, cond, not, _&&_}
 use mathlib.Core.List.{List, [], _∷_, _++_}
 use lib.Bits.{bitXor}
 use lib.Dec.{eqb}
 use lib.ListN.{getD, length, set}
-use Rattle.bits.specs.Words.{wordAt, Store, store, after}
-use Rattle.bits.specs.Bits.{bitAt, fieldAt, bitsOf, wordsBits}
+use Rattle.bits.specs.Words.{Bytes, wordAt, Store, store, after}
+use Rattle.bits.specs.Bits.{bitAt, bitsFrom, fieldAt, bitsOf, wordsBits}
 use Rattle.crc.specs.Crc.{crcOf}
 use Rattle.crc.specs.Crc5.{crc5Of}
 use Rattle.image.specs.declared.Layout.{Layout}
@@ -21,25 +21,30 @@ use Rattle.replies.specs.Replies.{replyBits}
 use Rattle.replies.specs.Pack.{packed}
 use Rattle.rights.specs.Rights.{bankOf, pwdBit, permaBit, lockedTo, faultNumber}
 use Rattle.frames.specs.declared.Round.{Round}
-use Rattle.states.specs.Commands.{killWord, accessWord, fallen}
+use Rattle.frames.specs.Frames.{span}
+use Rattle.states.specs.Commands.{killWord, accessWord, plainLink, fallen}
 use Rattle.states.specs.Inventory.{flagAt, withFlag, flagAfter}
+use Rattle.states.specs.declared.Cover.the-variants as cover
+use Rattle.states.specs.declared.Half.the-variants as half
 use Rattle.states.specs.declared.Flags.{Flags}
 use Rattle.states.specs.declared.Link.{Link}
 use Rattle.states.specs.declared.State.{State}
 use Rattle.states.specs.declared.State.the-variants as state
+use Rattle.stores.specs.Cuts.{withByte}
 use Rattle.stores.specs.Stores.{staged, changeStores, epcCrc, powerStores}
 use Rattle.tag.specs.declared.Register.{Register}
 use Rattle.tag.specs.declared.Power.the-variants as power
 use Rattle.rights.specs.declared.Fault.the-variants as fault
-use Rattle.tag.specs.Session.{offSession, on, newFlags, clear}
+use Rattle.tag.specs.declared.Outcome.{Outcome}
+use Rattle.tag.specs.Session.{offSession, on, newFlags, clear, numberOf}
 use Rattle.tag.specs.Port.{numberIn}
 use Rattle.demands.specs.Facts.{bitIn, LockedBy}
 use Rattle.demands.specs.Fields.{Fields}
 use Rattle.demands.specs.Images.{Images}
-use Rattle.tag.specs.Result.{leaves}
+use Rattle.tag.specs.Result.{leaves, result}
 use Rattle.tag.specs.Steps.{gives}
 use Rattle.tag.specs.declared.Session.{Session}
-use Rattle.bits.specs.Below.{below}
+use Rattle.bits.specs.Below.{below, every}
 
 -- bits with the CRC-16 over all of them behind them
 abbrev pub sealed : List ℕ → List ℕ
@@ -137,6 +142,13 @@ pub record Terms : Type 0 where
   pub row-none : (m : List ℕ) (i : ℕ) → wordsBits m i 0 ≡ []
   pub counted : (f : ℕ → Store) (n : ℕ) → below f (suc n) ≡ below f n ++ (f n ∷ [])
   pub counted-none : (f : ℕ → Store) → below f 0 ≡ []
+  pub each : (t : ℕ → Bool) (n : ℕ) → every t (suc n) ≡ (every t n && t n)
+  pub each-none : (t : ℕ → Bool) → every t 0 ≡ true
+  -- the bits that a checksum covers, one after the other; what is lent consists of bytes; and a torn byte
+  pub run : (m : List ℕ) (i n : ℕ) → bitsFrom m i (suc n) ≡ bitAt m i ∷ bitsFrom m (i + 1) n
+  pub run-none : (m : List ℕ) (i : ℕ) → bitsFrom m i 0 ≡ []
+  pub bytes : (m : List ℕ) → ((j : ℕ) → getD m j 0 < 256) → Bytes m
+  pub torn : (j : ℕ) (n m : List ℕ) → withByte j n m ≡ set m j (getD n j 0)
   -- the CRC-16: the complement of what is left of the bits behind FFFFh, divided by x^16 + x^12 + x^5 + 1
   pub crc : (bs : List ℕ) → crcOf bs ≡ 0xFFFF - divided 0xFFFF bs
   pub crc5 : (bs : List ℕ) → crc5Of bs ≡ divided5 0x09 bs
@@ -176,6 +188,21 @@ pub record Terms : Type 0 where
       × (fallen (state.Acknowledged q n) ≡ state.Arbitrate q 0)
       × (fallen (state.Open k) ≡ state.Arbitrate (k .round) 0)
       × (fallen (state.Secured k) ≡ state.Arbitrate (k .round) 0)
+  -- bank, pointer and count; and a link with its round and number alone
+  pub spanned : (b p c : ℕ) → span b p c ≡ record { bank = b; pointer = p; count = c }
+  pub plain : (q : Round) (h : ℕ) → plainLink q h ≡ record { round = q; handle = h; cover = cover.Nothing; half = half.Nothing }
+  -- what the code hands back is what is left, field by field
+  pub outcome : (o : Outcome) (m room : List ℕ)
+      → result o m room
+      ≡ record {
+        number = numberOf (o .answer);
+        session = o .session;
+        reply = o .reply;
+        stores = o .stores;
+        value = o .value;
+        image = m;
+        room = room;
+      }
   -- what an answer leaves: without reply and store, and with a reply of k bits and j stores
   pub leaving : (n : ℕ) (s : Session) (m room : List ℕ)
       → leaves n s m room ≡ record { number = n; session = s; reply = 0; stores = 0; value = 0; image = m; room = room }
