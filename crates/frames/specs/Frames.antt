@@ -34,7 +34,7 @@ taken n k right c = first ((heard.refused 7, not (eqb n k)) ∷ (heard.refused 8
 abbrev pub exactly : List ℕ → ℕ → ℕ → Order → Message
 exactly m n k o = taken n k (checksumRight m n) (record { number = fieldAt m (n - 32) 16; order = o })
 
--- an order to every tag has no number; and one in a frame of exactly k bits, without a CRC
+-- an order that names no handle has the number 0; and one in a frame of exactly k bits, without a CRC
 abbrev pub toAll : Order → Command
 toAll o = record { number = 0; order = o }
 

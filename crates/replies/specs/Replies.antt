@@ -1,4 +1,4 @@
--- The bits of each reply (RULES 3.9 and 3.10). Assumes nothing.
+-- The bits of each reply (RULES 3.9, 3.10, 11.5 and 11.6). Assumes nothing.
 use Prim.Native.Nat.{ℕ, _+_, _*_, _/_}
 use mathlib.Core.List.{List, [], _∷_, _++_}
 use Rattle.bits.specs.Bits.{bitsOf, wordsBits}
