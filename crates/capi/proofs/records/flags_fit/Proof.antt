@@ -1,4 +1,4 @@
--- `capi::records::flags_fit` meets its contract: one test of four bytes. Assumes nothing.
+-- `capi::records::flags_fit` meets its contract: one test of all that are 0 or 1. Assumes nothing.
 use Rattle.capi.specs.Steps.{flagsFit}
 use mathlib.Core.Path.{refl}
 use Rattle.capi.proofs.records.flags_fit.Statement.{statement}
