@@ -2,7 +2,7 @@
 use Prim.Native.Nat.{ℕ, zero, suc, _+_, _-_, _*_, _/_, _%_, _^_, _<_, _≤_}
 use mathlib.Core.Path.{_≡_, refl, sym, ap, ap₂, _∙_}
 use mathlib.Core.List.{List, [], _∷_, _++_}
-use native.Mathlib.Nat.{lt-of-lt-of-le, mod-lt, mod-one, mod-add-div, mul-zero, pow-suc}
+use native.Mathlib.Nat.{lt-of-lt-of-le, mod-lt, mod-one, mod-add-div, mul-zero, pow-suc, zero-add}
 use native.Mathlib.Omega.{arith}
 use native.Mathlib.Decide.{decLt}
 use lib.Bits.{bitAnd, bitOr, bitXor, or-shr, or-mod, or-lt, and-le-l}
@@ -75,6 +75,10 @@ number-on m (suc n) i acc =
 number-append : (acc : ℕ) (xs ys : List ℕ) → numberOn acc (xs ++ ys) ≡ numberOn (numberOn acc xs) ys
 number-append acc [] ys = refl
 number-append acc (x ∷ xs) ys = number-append (acc * 2 + x) xs ys
+
+pub single : (m : List ℕ) (i : ℕ) → fieldAt m i 1 ≡ bitAt m i
+unfolding fieldAt
+single m i = zero-add (bitAt m i)
 
 pub field-append : (m : List ℕ) (i a b : ℕ) → fieldAt m i (a + b) ≡ fieldAt m i a * 2 ^ b + fieldAt m (i + a) b
 unfolding fieldAt

@@ -93,7 +93,7 @@ fn wider(b: u8) -> u32
 }
 
 // The three bytes from byte k on, as one number.
-fn window(bytes: &[u8], k: usize) -> u32
+pub fn window(bytes: &[u8], k: usize) -> u32
     requires { ⌜ k < 2 ^ 62 ⌝ }
     ensures { λ r. ⌜ r ≡ windowAt (now (bytes .entry)) k ⌝ }
 {

@@ -1,6 +1,6 @@
 // CRC-16 of lent bytes' bits (RULES 2.8): by eight bytes, then the rest at once, or bit by bit where it is under 16 bits. CRC-5 of the first 17.
 ghost use mathlib.Core.Path.{_≡_};
-ghost use Prim.Native.Nat.{_+_, _-_, _/_, _*_, _≤_, _<_};
+ghost use Prim.Native.Nat.{_+_, _-_, _/_, _*_, _%_, _^_, _≤_, _<_};
 ghost use lib.ListN.{length};
 ghost use Rattle.bits.specs.Bits.{bitsFrom, bitsOf, fieldAt};
 ghost use Rattle.crc.specs.Crc.{crcOf, run, shift};
@@ -138,11 +138,18 @@ pub fn crc16_words(bytes: &[u8], n: usize) -> u16
     !rest(wider(r) << (k - 16) ^ tail(bytes, n / 4 * 8, k))
 }
 
+// The low 17 bits.
+fn from_window(x: u32) -> u64
+    ensures { λ r. ⌜ (r ≡ x % 2 ^ 17) × (r < 2 ^ 17) ⌝ }
+{
+    (x % 0x2_0000) as u64
+}
+
 // The CRC-5 of the first 17 bits, with 0 for those past the end. The preset stands at their front; q is the quotient, made by four sparse factors.
 pub fn crc5(bytes: &[u8]) -> u16
     ensures { λ r. ⌜ r ≡ crc5Of (bitsFrom (now (bytes .entry)) 0 17) ⌝ }
 {
-    let u = (wider(bits::field(bytes, 0, 16)) * 2 + wider(bits::bit(bytes, 16))) ^ 0x9000;
+    let u = from_window(bits::window(bytes, 0) >> 7) ^ 0x9000;
     let a = u ^ u >> 2 ^ u >> 5;
     let b = a ^ a >> 4 ^ a >> 10;
     let c = b ^ b >> 8;

@@ -1,16 +1,16 @@
 -- `crc::crc5` meets its contract: it is linear, and right at each single bit. Assumes nothing.
-use Prim.Native.Nat.{ℕ, _+_, _*_, _/_, _%_, _^_}
-use mathlib.Core.Path.{_≡_, refl, sym, ap, ap₂, _∙_}
+use Prim.Native.Nat.{ℕ, _*_, _/_, _%_, _^_, _<_}
+use mathlib.Core.Path.{_≡_, refl, sym, ap, _∙_}
 use mathlib.Core.Bool.{true}
-use mathlib.Core.List.{List}
-use native.Mathlib.Nat.{zero-add}
 use native.Mathlib.Omega.{arith}
 use denote.Ref.{now}
 use borrow.Author.Needs.{needs}
 use lib.Bits.{bitXor}
-use Rattle.bits.specs.Bits.{bitAt, bitsOf, fieldAt}
+use lib.ListN.{getD}
+use Rattle.bits.specs.Bits.{bitsOf, fieldAt}
 use Rattle.bits.specs.Below.{every}
-use Rattle.bits.proofs.Fields.{field-lt, field-bits, field-append}
+use Rattle.bits.proofs.Fields.{field-lt, field-bits}
+use Rattle.bits.proofs.Windows.{through-window}
 use Rattle.crc.specs.Crc5.{run5, crc5Of}
 use Rattle.crc.proofs.Linear.{of5}
 use Rattle.crc.proofs.Steps.{Linear, both, then, same, right, up, left, cut, shifts, test, steps}
@@ -41,26 +41,18 @@ tested : every (test of5 17 code) 22 ≡ true
 unfolding code quotient twice shifts test bitsOf
 tested = refl
 
--- 16 bits and the next
-single : (m : List ℕ) (i : ℕ) → fieldAt m i 1 ≡ bitAt m i
-unfolding fieldAt
-single m i = zero-add (bitAt m i)
-
-and-one : (m : List ℕ) → fieldAt m 0 17 ≡ fieldAt m 0 16 * 2 + bitAt m 16
-and-one m = field-append m 0 16 1 ∙ ap (λ (x : ℕ). fieldAt m 0 16 * 2 + x) (single m 16)
-
 returns : tie.Need-returns
 unfolding code quotient twice crc5Of
 returns c =
-    let m = now (c .before .before .before .before .before .args .bytes) in
-    let first = c .before .before .wider .ensures .0 ∙ c .before .before .before .field .ensures .0 in
-    let last = c .wider2 .ensures .0 ∙ c .before .bit .ensures .0 in
-    ap (code 9) (ap₂ (λ (x y : ℕ). x * 2 + y) first last ∙ sym (and-one m))
+    let m = now (c .before .before .before .args .bytes) in
+    let bytes : (j : ℕ) → getD m j 0 < 256 = λ j. omega (arith, c .before .before .shared-slice-known .given j) in
+    let u : c .from-window .result ≡ fieldAt m 0 17 =
+    c .from-window .ensures .0 ∙ ap (λ (x : ℕ). x / 2 ^ 7 % 2 ^ 17) (c .before .window .ensures) ∙ sym (through-window m 0 0 17 7 bytes refl (omega arith)) in
+    ap (code 9) u
     ∙ sym (steps of5 17 code linear tested 9 (fieldAt m 0 17) (omega arith) (field-lt m 0 17))
     ∙ ap (run5 9) (field-bits m 0 17)
 
 pub crc5-spec : {M : Type 1} → statement M
 crc5-spec =
     tie.close
-    (tie.spec (search needs) (search needs) (search needs) (search needs) (search needs) (search needs) (search needs)
-    returns)
+    (tie.spec (search needs) (search needs) (search needs) returns)
