@@ -1,4 +1,5 @@
 pub mod Pointers
 pub mod Codes
 pub mod Laws
+pub mod Ones
 pub mod Orders

@@ -1,10 +1,22 @@
--- The frames without a pointer, one by one, as the code reads them. Assumes nothing.
+-- The frames without a pointer, one by one, and what a frame of inventory says, as the code reads them. Assumes nothing.
 use Prim.Native.Nat.{ℕ}
 use mathlib.Core.List.{List}
 use Rattle.bits.specs.Bits.{fieldAt}
+use Rattle.frames.specs.declared.Calling.{Calling}
+use Rattle.frames.specs.declared.Calling.the-variants as call
 use Rattle.frames.specs.declared.Order.the-variants as order
 use Rattle.frames.specs.Message.{Message}
-use Rattle.frames.specs.Frames.{exactly, plainly}
+use Rattle.frames.specs.Message as heard
+use Rattle.frames.specs.Frames.{exactly, plainly, toAll}
+
+abbrev pub called : Calling → Message
+called call.Malformed = heard.refused 7
+called call.Checksum = heard.refused 8
+called (call.QueryRep k) = heard.said (toAll (order.QueryRep k))
+called (call.Ack n) = heard.said (toAll (order.Ack n))
+called (call.Query sel t k q) = heard.said (toAll (order.Query sel t (record { session = k; q = q })))
+called (call.QueryAdjust k u) = heard.said (toAll (order.QueryAdjust k u))
+called (call.Select c p) = heard.said (toAll (order.Select c p))
 
 abbrev pub queryRepFrame : List ℕ → ℕ → Message
 queryRepFrame m n = plainly n 4 (order.QueryRep (fieldAt m 2 2))

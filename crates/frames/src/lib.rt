@@ -1,11 +1,11 @@
 // Frames in: from a frame's bits to what it asks for (RULES 3.5 to 3.8 and 11.1).
 ghost use mathlib.Core.Path.{_≡_};
-ghost use Prim.Native.Nat.{_+_, _*_, _^_, _≤_, _<_};
+ghost use Prim.Native.Nat.{_+_, _*_, _/_, _%_, _^_, _≤_, _<_};
 ghost use lib.ListN.{length};
 ghost use Rattle.bits.specs.Bits.{fieldAt};
 ghost use Rattle.frames.specs.Message.{meaning};
-ghost use Rattle.frames.specs.Frames.{heardOf, checksumRight, toAll, plainly, taken, exactly, span as spanOf, queryFrame, selectFrame, readFrame, writeFrame, blockWriteFrame, blockEraseFrame, permalockFrame};
-ghost use Rattle.frames.specs.Steps.{queryRepFrame, ackFrame, queryAdjustFrame, nakFrame, reqRnFrame, killFrame, lockFrame, accessFrame};
+ghost use Rattle.frames.specs.Frames.{heardOf, checksumRight, toAll, plainly, exactly, span as spanOf, queryFrame, selectFrame, readFrame, writeFrame, blockWriteFrame, blockEraseFrame, permalockFrame};
+ghost use Rattle.frames.specs.Steps.{called, queryRepFrame, ackFrame, queryAdjustFrame, nakFrame, reqRnFrame, killFrame, lockFrame, accessFrame};
 use ebv::Pointer;
 
 // Words of a bank: the bank's number, the first word and how many. For BlockPermalock the words are PERMA's.
@@ -30,7 +30,7 @@ pub struct Choice {
 }
 
 // What a command asks for. Words and halves are as sent, covered. A place is the first bit of the words, or of the mask, that the frame brings. QueryRep has a session,
-// ACK its number, Query Sel, target and round, QueryAdjust a session and UpDn.
+// ACK its number, Query Sel, target and round, QueryAdjust a session and UpDn. The code makes the five of inventory as `Calling`.
 pub enum Order {
     QueryRep(u8),
     Ack(u16),
@@ -64,6 +64,18 @@ pub enum Heard {
     Said(Command),
 }
 
+// What a frame of inventory says: QueryRep its session, ACK its number, Query Sel, target, session and Q, QueryAdjust a session and UpDn, Select its choice and the mask's
+// first bit.
+pub enum Calling {
+    Malformed,
+    Checksum,
+    QueryRep(u8),
+    Ack(u16),
+    Query(u8, u8, u8, u8),
+    QueryAdjust(u8, u8),
+    Select(Choice, usize),
+}
+
 // Whether the CRC-16 at a frame's end is that of the bits before it.
 fn checksum_right(frame: &[u8], n: usize) -> bool
     requires { ⌜ (24 ≤ n) × (n ≤ 8 * length (now frame)) ⌝ }
@@ -84,20 +96,6 @@ fn plain(n: usize, k: usize, order: Order) -> Heard
 {
     if n != k {
         return Heard::Malformed;
-    }
-    said(order)
-}
-
-// The order in a frame of exactly k bits, with a CRC-16 and no number.
-fn summed(frame: &[u8], n: usize, k: usize, order: Order) -> Heard
-    requires { ⌜ (24 ≤ k) × (n ≤ 8 * length (now frame)) ⌝ }
-    ensures { λ r. ⌜ meaning r ≡ taken n k (checksumRight (now (frame .entry)) n) (toAll order) ⌝ }
-{
-    if n != k {
-        return Heard::Malformed;
-    }
-    if !checksum_right(frame, n) {
-        return Heard::Checksum;
     }
     said(order)
 }
@@ -147,48 +145,74 @@ fn small(frame: &[u8], at: usize, n: usize) -> u8
     bits::field(frame, at, n) as u8
 }
 
-fn query_rep(frame: &[u8], n: usize) -> Heard
-    ensures { λ r. ⌜ meaning r ≡ queryRepFrame (now (frame .entry)) n ⌝ }
+// A field of one bit.
+fn one(frame: &[u8], at: usize) -> u8
+    ensures { λ r. ⌜ r ≡ fieldAt (now (frame .entry)) at 1 ⌝ }
 {
-    plain(n, 4, Order::QueryRep(small(frame, 2, 2)))
+    bits::bit(frame, at) as u8
 }
 
-fn ack(frame: &[u8], n: usize) -> Heard
-    ensures { λ r. ⌜ meaning r ≡ ackFrame (now (frame .entry)) n ⌝ }
+fn query_rep(frame: &[u8], n: usize) -> Calling
+    ensures { λ r. ⌜ called r ≡ queryRepFrame (now (frame .entry)) n ⌝ }
 {
-    plain(n, 18, Order::Ack(bits::field(frame, 2, 16)))
+    if n != 4 {
+        return Calling::Malformed;
+    }
+    Calling::QueryRep(small(frame, 2, 2))
 }
 
-fn query(frame: &[u8], n: usize) -> Heard
-    ensures { λ r. ⌜ meaning r ≡ queryFrame (now (frame .entry)) n ⌝ }
+fn ack(frame: &[u8], n: usize) -> Calling
+    ensures { λ r. ⌜ called r ≡ ackFrame (now (frame .entry)) n ⌝ }
+{
+    if n != 18 {
+        return Calling::Malformed;
+    }
+    Calling::Ack(bits::field(frame, 2, 16))
+}
+
+// Some of a number's bits.
+fn part(x: u32, unit: u32, most: u32) -> u8
+    requires { ⌜ (0 < unit) × (0 < most) × (most ≤ 256) ⌝ }
+    ensures { λ r. ⌜ r ≡ x / unit % most ⌝ }
+{
+    (x / unit % most) as u8
+}
+
+// All of a Query stands in three bytes.
+fn query(frame: &[u8], n: usize) -> Calling
+    ensures { λ r. ⌜ called r ≡ queryFrame (now (frame .entry)) n ⌝ }
 {
     if n != 22 {
-        return Heard::Malformed;
+        return Calling::Malformed;
     }
-    if bits::field(frame, 17, 5) != crc::crc5(frame) {
-        return Heard::Checksum;
+    let x = bits::window(frame, 0);
+    if part(x, 4, 32) as u16 != crc::crc5(frame) {
+        return Calling::Checksum;
     }
-    let sel = small(frame, 8, 2);
-    let session = small(frame, 10, 2);
-    let target = small(frame, 12, 1);
-    let q = small(frame, 13, 4);
-    said(Order::Query(sel, target, Round { session, q }))
+    let sel = part(x, 0x4000, 4);
+    let session = part(x, 0x1000, 4);
+    let target = part(x, 0x800, 2);
+    let q = part(x, 0x80, 16);
+    Calling::Query(sel, target, session, q)
 }
 
-fn query_adjust(frame: &[u8], n: usize) -> Heard
-    ensures { λ r. ⌜ meaning r ≡ queryAdjustFrame (now (frame .entry)) n ⌝ }
+fn query_adjust(frame: &[u8], n: usize) -> Calling
+    ensures { λ r. ⌜ called r ≡ queryAdjustFrame (now (frame .entry)) n ⌝ }
 {
+    if n != 9 {
+        return Calling::Malformed;
+    }
     let session = small(frame, 4, 2);
     let up_down = small(frame, 6, 3);
-    plain(n, 9, Order::QueryAdjust(session, up_down))
+    Calling::QueryAdjust(session, up_down)
 }
 
-fn select(frame: &[u8], n: usize) -> Heard
+fn select(frame: &[u8], n: usize) -> Calling
     requires { ⌜ n ≤ 8 * length (now frame) ⌝ }
-    ensures { λ r. ⌜ meaning r ≡ selectFrame (now (frame .entry)) n ⌝ }
+    ensures { λ r. ⌜ called r ≡ selectFrame (now (frame .entry)) n ⌝ }
 {
     let Pointer::Whole { value, bytes } = ebv::read(frame, n, 12) else {
-        return Heard::Malformed;
+        return Calling::Malformed;
     };
     let w = width(bytes);
     let mask = named(frame, 10, value, w);
@@ -197,9 +221,15 @@ fn select(frame: &[u8], n: usize) -> Heard
         target: small(frame, 4, 3),
         action: small(frame, 7, 3),
         bits: mask,
-        truncate: small(frame, end, 1),
+        truncate: one(frame, end),
     };
-    summed(frame, n, end + 17, Order::Select(choice, 20 + w))
+    if n != end + 17 {
+        return Calling::Malformed;
+    }
+    if !checksum_right(frame, n) {
+        return Calling::Checksum;
+    }
+    Calling::Select(choice, 20 + w)
 }
 
 fn nak(n: usize) -> Heard
@@ -318,10 +348,10 @@ fn permalock(frame: &[u8], n: usize) -> Heard
     )
 }
 
-// What a frame of this code says: the code chooses the layout and the length.
-fn by_code(frame: &[u8], n: usize, code: u8) -> Heard
-    requires { ⌜ (4 ≤ n) × (n ≤ 8 * length (now frame)) × (code ≡ fieldAt (now frame) 0 8) ⌝ }
-    ensures { λ r. ⌜ meaning r ≡ heardOf (now (frame .entry)) n ⌝ }
+// What a frame of inventory says: its code, of two bits or four, chooses layout and length.
+pub fn call(frame: &[u8], n: usize, code: u8) -> Calling
+    requires { ⌜ (4 ≤ n) × (n ≤ 8 * length (now frame)) × (code ≡ fieldAt (now frame) 0 8) × (code < 0xC0) ⌝ }
+    ensures { λ r. ⌜ called r ≡ heardOf (now (frame .entry)) n ⌝ }
 {
     match code {
         0x00..=0x3F => query_rep(frame, n),
@@ -329,6 +359,17 @@ fn by_code(frame: &[u8], n: usize, code: u8) -> Heard
         0x80..=0x8F => query(frame, n),
         0x90..=0x9F => query_adjust(frame, n),
         0xA0..=0xAF => select(frame, n),
+        // C0h to FFh never come here
+        0xB0..=0xFF => Calling::Malformed,
+    }
+}
+
+// What any other frame says: its code, of eight bits, chooses layout and length.
+pub fn hear(frame: &[u8], n: usize, code: u8) -> Heard
+    requires { ⌜ (4 ≤ n) × (n ≤ 8 * length (now frame)) × (code ≡ fieldAt (now frame) 0 8) × (0xC0 ≤ code) ⌝ }
+    ensures { λ r. ⌜ meaning r ≡ heardOf (now (frame .entry)) n ⌝ }
+{
+    match code {
         0xC0 => nak(n),
         0xC1 => req_rn(frame, n),
         0xC2 => read(frame, n),
@@ -339,19 +380,7 @@ fn by_code(frame: &[u8], n: usize, code: u8) -> Heard
         0xC7 => block_write(frame, n),
         0xC8 => block_erase(frame, n),
         0xC9 => permalock(frame, n),
-        0xB0..=0xBF | 0xCA..=0xFF => Heard::Malformed,
+        // 00h to BFh never come here
+        0x00..=0xBF | 0xCA..=0xFF => Heard::Malformed,
     }
-}
-
-// What a frame of n bits says, for any bytes and any n.
-pub fn hear(frame: &[u8], n: usize) -> Heard
-    ensures { λ r. ⌜ meaning r ≡ heardOf (now (frame .entry)) n ⌝ }
-{
-    if n < 4 {
-        return Heard::Malformed;
-    }
-    if frame.len() <= (n - 1) / 8 {
-        return Heard::Malformed;
-    }
-    by_code(frame, n, frame[0])
 }
