@@ -7,10 +7,10 @@ returns : tie.Need-returns
 returns c = rw (← c .before .before .before .before .before .read-layout .ensures, ← c .before .before .before .lock-code .ensures, c .before .e .given .1)
 
 returns-2 : tie.Need-returns-2
-returns-2 c = rw (c .used .ensures, c .before .locked .ensures, c .before .before .word .ensures, ← c .before .before .before .before .before .before .before .read-layout .ensures, ← c .before .before .before .before .before .lock-code .ensures, c .before .before .before .enum-told .given .1)
+returns-2 c = rw (c .locked .ensures, c .before .word .ensures, ← c .before .before .before .before .before .before .read-layout .ensures, ← c .before .before .before .before .lock-code .ensures, c .before .before .enum-told .given .1)
 
 pub lock-spec : {M : Type 1} → statement M
 lock-spec =
     tie.close
     (tie.spec (search needs) (search needs) (search needs) (search needs) (search needs) (search needs) (search needs)
-    (search needs) returns returns-2)
+    returns returns-2)

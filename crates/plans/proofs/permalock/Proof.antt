@@ -7,10 +7,10 @@ returns : tie.Need-returns
 returns c = rw (← c .before .before .before .before .read-layout .ensures, ← c .before .before .before .perma-code .ensures, c .before .e .given .1)
 
 returns-2 : tie.Need-returns-2
-returns-2 c = rw (c .before .used .ensures, ← c .before .before .before .before .before .before .before .read-layout .ensures, ← c .before .before .before .before .before .before .perma-code .ensures, c .before .before .before .before .enum-told .given .1)
+returns-2 c = rw (← c .before .before .before .before .before .before .read-layout .ensures, ← c .before .before .before .before .before .perma-code .ensures, c .before .before .before .enum-told .given .1)
 
 pub permalock-spec : {M : Type 1} → statement M
 permalock-spec =
     tie.close
     (tie.spec (search needs) (search needs) (search needs) (search needs) (search needs) (search needs) (search needs)
-    (search needs) (search needs) returns returns-2)
+    (search needs) returns returns-2)
