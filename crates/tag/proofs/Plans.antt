@@ -1,6 +1,6 @@
--- Where no error code applies, an order's words lie in the image and can be stored; and an order's ways to its end. Assumes nothing.
+-- Where no error code applies, an order's words lie in the image and can be stored; and the ways of stores to their end. Assumes nothing.
 use Prim.Native.Nat.{ℕ, _+_, _-_, _*_, _≤_, _<_}
-use mathlib.Core.Path.{_≡_, refl, sym, ap, _∙_}
+use mathlib.Core.Path.{_≡_, refl}
 use mathlib.Core.Bool.{Bool, true, false, cond, not, _||_}
 use mathlib.Core.List.{List, []}
 use native.Mathlib.Omega.{arith}
@@ -30,26 +30,15 @@ use Rattle.bits.specs.Bits.{bitAt, fieldAt}
 use Rattle.bits.specs.Below.{every}
 use Rattle.rights.specs.Rights.{bankOf, beyond, mayWrite, badPc, spanWords, readCode, writeCode, lockedTo, pairBreaks, lockCode, notPerma, permaReadCode, permaCode}
 use Rattle.changes.specs.Changes.{Holds}
-use Rattle.states.specs.declared.Half.{Half}
-use Rattle.states.specs.declared.Half.the-variants as half
-use Rattle.states.specs.declared.Flags.{Flags}
-use Rattle.states.specs.declared.State.{State}
-use Rattle.states.specs.declared.State.the-variants as state
 use Rattle.plans.specs.declared.Plan.{Plan}
 use Rattle.plans.specs.declared.Plan.the-variants as plan
-use Rattle.plans.specs.Effects.{Effect, turns, halfKill, halfAccess, placeOf}
-use Rattle.plans.specs.Steps.{Placed, orError, killBy, planOf}
-use Rattle.tag.specs.declared.Answer.the-variants as answer
-use Rattle.tag.specs.declared.Live.{Live}
-use Rattle.tag.specs.declared.Session.{Session}
-use Rattle.tag.specs.Table.{turnedTo, movedTo}
-use Rattle.frames.specs.declared.Command.{Command}
-use Rattle.tag.specs.Result.{Result, result}
-use Rattle.states.specs.Commands.{asksOf, linkOf, isSecured, uncovered, wrongBy, breaks, fallen}
-use Rattle.states.specs.Inventory.{queriedFlags, queried, leftFlags, adjusted, repeated, acknowledged, selects, selectedFlags}
-use Rattle.states.specs.Steps.{killCode, accessed, wrongCommand}
-use Rattle.states.proofs.Gates.{Named, passes-handle}
-use Rattle.tag.specs.Steps.{gives, kept, tellEnd, storeEnd, doneEnd, endBy, sceneOf, droppedWith, orderOf, commandOf, Sound, performOf}
+use Rattle.plans.specs.Effects.{placeOf}
+use Rattle.plans.specs.Steps.{Placed, orError, planOf}
+use Rattle.states.specs.Commands.{zeroKill}
+use Rattle.states.specs.declared.Numbers.{Numbers}
+use Rattle.states.specs.ByNumber.{bareOf}
+use Rattle.tag.specs.Steps.{stays, tells, doneBy}
+use Rattle.tag.specs.ByNumber.{storeAt, finishAt, Sound}
 
 -- a row that does not hold, and those after it
 none-row : (b : Bool) (e : Fault) (rest : Code) → cond b (code.Error e) rest ≡ code.Nothing → (b ≡ false) × (rest ≡ code.Nothing)
@@ -172,41 +161,41 @@ pub good-long : (y : Layout) (m : List ℕ) → Good y m → 32 ≤ length m
 good-long y m g = let h = g .header in omega arith
 
 -- without a store neither WORK nor the power counts
-pub tell-any : (l : Live) (w : ℕ) (m room : List ℕ) (s : ℕ) (r : Reply) (v : Session) → tellEnd l m room r v ≡ doneEnd l w m room s r v []
-unfolding doneEnd
-tell-any l w m room s r v = let e : ltb s 0 ≡ false = le-ltb s 0 (omega arith) in rw e
+pub tell-any : {S : Type 0} (off old : S) (w : ℕ) (m room : List ℕ) (s : ℕ) (r : Reply) (v : S) → doneBy off old 0 m room 0 r v [] ≡ doneBy off old w m room s r v []
+unfolding doneBy
+tell-any off old w m room s r v = let e : ltb s 0 ≡ false = le-ltb s 0 (omega arith) in rw e
 
 -- silence always has room
-pub silent-end : (l : Live) (m room : List ℕ) (v : Session) → gives 0 v 0 0 m room ≡ tellEnd l m room reply.Silence v
-unfolding doneEnd
-silent-end l m room v = let a : ltb (length room) 0 ≡ false = le-ltb (length room) 0 (omega arith) in rw (a, packed-none)
+pub silent-end : {S : Type 0} (off old : S) (m room : List ℕ) (v : S) → tells 0 v 0 0 m room ≡ doneBy off old 0 m room 0 reply.Silence v []
+unfolding doneBy
+silent-end off old m room v = let a : ltb (length room) 0 ≡ false = le-ltb (length room) 0 (omega arith) in rw (a, packed-none)
 
 -- a change's stores, and what they leave to say
-module _ (l : Live) (h w : ℕ) (m room : List ℕ) (s : ℕ) (st : State) (ss : List Store) where
-  pub store-small : length room < 5 → kept 4 l m room ≡ doneEnd l w m room s (reply.Success h) (movedTo l st) ss
-  unfolding doneEnd
+module _ (v u : Numbers) (h w : ℕ) (m room : List ℕ) (s : ℕ) (ss : List Store) where
+  pub store-small : length room < 5 → stays 4 v m room ≡ storeAt v h u w m room s ss
+  unfolding doneBy
   store-small q = simp (lt-ltb _ _ q)
 
   module _ {n : List ℕ} {k need : ℕ} (b : 5 ≤ length room) (e : need ≡ length (changeStores w ss)) (p : Made (changeStores w ss) s m n k) where
-    store-cut : ltb s (length (changeStores w ss)) ≡ true → storeEnd l h st n room k need s ≡ doneEnd l w m room s (reply.Success h) (movedTo l st) ss
-    unfolding storeEnd doneEnd
+    store-cut : ltb s (length (changeStores w ss)) ≡ true → finishAt h u n room k need s ≡ storeAt v h u w m room s ss
+    unfolding finishAt doneBy
     store-cut q =
         let c : k ≡ s = omega (arith, p .made, ltb-true s (length (changeStores w ss)) q) in
         let small : ltb (length room) 5 ≡ false = le-ltb (length room) 5 b in
         rw (e, c, p .image) (simp (small, q))
 
-    store-whole : ltb s (length (changeStores w ss)) ≡ false → storeEnd l h st n room k need s ≡ doneEnd l w m room s (reply.Success h) (movedTo l st) ss
-    unfolding storeEnd doneEnd
+    store-whole : ltb s (length (changeStores w ss)) ≡ false → finishAt h u n room k need s ≡ storeAt v h u w m room s ss
+    unfolding finishAt doneBy
     store-whole q =
         let c : k ≡ length (changeStores w ss) = omega (arith, p .made, ltb-false s (length (changeStores w ss)) q) in
         let d : take s (changeStores w ss) ≡ changeStores w ss = take-all s (changeStores w ss) (ltb-false s (length (changeStores w ss)) q) in
         let small : ltb (length room) 5 ≡ false = le-ltb (length room) 5 b in
         rw (e, c, p .image, d) (simp (small, q))
 
-    pub store-end : storeEnd l h st n room k need s ≡ doneEnd l w m room s (reply.Success h) (movedTo l st) ss
+    pub store-end : finishAt h u n room k need s ≡ storeAt v h u w m room s ss
     store-end = go (ltb s (length (changeStores w ss))) refl
       where
-        go : (t : Bool) → ltb s (length (changeStores w ss)) ≡ t → storeEnd l h st n room k need s ≡ doneEnd l w m room s (reply.Success h) (movedTo l st) ss
+        go : (t : Bool) → ltb s (length (changeStores w ss)) ≡ t → finishAt h u n room k need s ≡ storeAt v h u w m room s ss
         go true q = store-cut q
         go false q = store-whole q
 
@@ -216,144 +205,40 @@ module _ (w n : ℕ) where
   code-sound code.Nothing p h = h refl
   code-sound (code.Error e) p h = tt
 
-module _ (y : Layout) (m f : List ℕ) (flags : Flags) (st : State) (good : Good y m) where
+module _ (y : Layout) (m f : List ℕ) (good : Good y m) where
   g : Header y m
   g = good .header
 
   -- PC and EPC lie in their bank
-  epc-fits : (2 * (y .epc .at + 1 + (lengthOf (pcWord y m) + 1)) ≤ length m) × (lengthOf (pcWord y m) + 1 < 65536)
+  pub epc-fits : (2 * (y .epc .at + 1 + (lengthOf (pcWord y m) + 1)) ≤ length m) × (lengthOf (pcWord y m) + 1 < 65536)
   epc-fits =
       let p = good .content 0 .pc in
       (omega (arith, p, bank-end y m g 1, g .whole), omega (arith, p, bank-end y m g 1, work-small y m g))
 
-  ack-sound : (n : ℕ) (b : Bool) → Sound (y .work .at) (length m) (cond b (plan.Epc (acknowledged st) (y .epc .at + 1) (lengthOf (pcWord y m) + 1)) (plan.Turn (fallen st) flags))
-  ack-sound n true = epc-fits
-  ack-sound n false = tt
+  kill-sound : (a b : Bool) (up : ℕ) → Sound (y .work .at) (length m) (cond a (cond b (plan.Error fault.Other) (plan.Half 2 up)) (plan.Kill 1 (y .status .at + 1)))
+  kill-sound true true up = tt
+  kill-sound true false up = tt
+  kill-sound false b up = killed-held y m g
 
-  kill-sound : (h : ℕ) (half : Half) → Sound (y .work .at) (length m) (killBy y st h half)
-  kill-sound h half.Nothing = tt
-  kill-sound h (half.Access up) = tt
-  kill-sound h (half.Kill up) = killed-held y m g
+  access-sound : (a : Bool) (up : ℕ) → Sound (y .work .at) (length m) (cond a (plan.Half 1 up) plan.Secure)
+  access-sound true up = tt
+  access-sound false up = tt
 
-  pub plan-sound : (fresh : ℕ) (o : Order) → Placed o → Sound (y .work .at) (length m) (planOf y m f fresh flags st o)
-  plan-sound fresh (order.QueryRep k) q = tt
-  plan-sound fresh (order.Ack n) q = ack-sound n (eqb (linkOf st .handle) n)
-  plan-sound fresh (order.Query sel t r) q = tt
-  plan-sound fresh (order.QueryAdjust k u) q = tt
-  plan-sound fresh (order.Select c p) q = tt
-  plan-sound fresh order.Nak q = tt
-  plan-sound fresh order.ReqRn q = tt
-  plan-sound fresh (order.Read s) q = code-sound _ _ (readCode y m (isSecured st) s) _ (read-fits y m g m (isSecured st) s)
-  plan-sound fresh (order.Write s w) q = code-sound _ _ (writeCode y m (isSecured st) s (uncovered (linkOf st .cover) w)) _ (word-held y m g m (isSecured st) s _)
-  plan-sound fresh (order.Kill h) q = code-sound _ _ (killCode y m (linkOf st .half)) _ (λ e. kill-sound h (linkOf st .half))
-  plan-sound fresh (order.Lock mask action) q = code-sound _ _ (lockCode y m mask action) _ (λ e. lock-held y m g)
-  plan-sound fresh (order.Access h) q = tt
-  plan-sound fresh (order.BlockWrite s p) q = code-sound _ _ (writeCode y m (isSecured st) s (fieldAt f (p + 16 * (1 - s .pointer)) 16)) _ (λ e. (words-held y m g m (isSecured st) s _ e, q))
-  plan-sound fresh (order.BlockErase s) q = code-sound _ _ (writeCode y m (isSecured st) s 0) _ (words-held y m g m (isSecured st) s 0)
-  plan-sound fresh (order.ReadPermalock r s) q = code-sound _ _ (permaReadCode y s) _ (read-perma-fits y m g m (isSecured st) s)
-  plan-sound fresh (order.Permalock r s p) q =
-      code-sound _ _ (permaCode y m s f p) _ (λ e. let h = mask-held y m g m (isSecured st) s f p e in (h .0, q, h .1))
-
--- and comes to what the table says of the order
-module _ (l : Live) (y : Layout) (m f : List ℕ) (fresh : ℕ) (room : List ℕ) (s : ℕ) where
-  handle : ℕ
-  handle = linkOf (l .state) .handle
-
-  perform : Plan → Result
-  perform p = performOf l handle y m f room s p
-
-  ends : Code → Effect → Result
-  ends c x = endBy c l (y .work .at) m room s x
-
-  code-performs : (c : Code) (p : Plan) (x : Effect) → perform p ≡ doneEnd l (y .work .at) m room s (x .reply) (turnedTo l (x .flags) (x .state)) (x .words) → perform (orError c p) ≡ ends c x
-  unfolding handle perform ends
-  code-performs code.Nothing p x h = h
-  code-performs (code.Error e) p x h = refl
-
-  kill-performs : (h : ℕ) (a : Half) → perform (orError (killCode y m a) (killBy y (l .state) h a)) ≡ (let x = halfKill (sceneOf l y m f fresh) h a in ends (x .code) x)
-  unfolding handle perform ends
-  kill-performs h half.Nothing = code-performs (killCode y m half.Nothing) _ (halfKill (sceneOf l y m f fresh) h half.Nothing) refl
-  kill-performs h (half.Access up) = refl
-  kill-performs h (half.Kill up) = refl
-
-  access-performs : (h : ℕ) (a : Half) → perform (plan.Number (accessed (l .state) h a) handle) ≡ (let x = halfAccess (sceneOf l y m f fresh) h a in ends (x .code) x)
-  unfolding handle perform ends
-  access-performs h half.Nothing = refl
-  access-performs h (half.Access up) = refl
-  access-performs h (half.Kill up) = refl
-
-  ack-performs : (b : Bool) (p q : Plan) (x z : Effect) → perform p ≡ ends (x .code) x → perform q ≡ ends (z .code) z
-      → perform (cond b p q) ≡ (let e = cond b x z in ends (e .code) e)
-  ack-performs true p q x z a b = a
-  ack-performs false p q x z a b = b
-
-  pub plan-performs : (o : Order) → performOf l (linkOf (l .state) .handle) y m f room s (planOf y m f fresh (l .flags) (l .state) o) ≡ orderOf l y m f fresh room s o
-  unfolding handle perform ends
-  plan-performs (order.QueryRep k) = refl
-  plan-performs (order.Ack n) = ack-performs (eqb (linkOf (l .state) .handle) n) _ _ _ _ refl refl
-  plan-performs (order.Query sel t r) = refl
-  plan-performs (order.QueryAdjust k u) = refl
-  plan-performs (order.Select c p) = refl
-  plan-performs order.Nak = refl
-  plan-performs order.ReqRn = refl
-  plan-performs (order.Read p) = code-performs (readCode y m (isSecured (l .state)) p) _ _ refl
-  plan-performs (order.Write p w) = code-performs (writeCode y m (isSecured (l .state)) p (uncovered (linkOf (l .state) .cover) w)) _ _ refl
-  plan-performs (order.Kill h) = kill-performs h (linkOf (l .state) .half)
-  plan-performs (order.Lock mask action) = code-performs (lockCode y m mask action) _ _ refl
-  plan-performs (order.Access h) = access-performs h (linkOf (l .state) .half)
-  plan-performs (order.BlockWrite p b) = code-performs (writeCode y m (isSecured (l .state)) p (fieldAt f (b + 16 * (1 - p .pointer)) 16)) _ _ refl
-  plan-performs (order.BlockErase p) = code-performs (writeCode y m (isSecured (l .state)) p 0) _ _ refl
-  plan-performs (order.ReadPermalock r p) = code-performs (permaReadCode y p) _ _ refl
-  plan-performs (order.Permalock r p b) = code-performs (permaCode y m p f b) _ _ refl
-
-  handled : (n : ℕ) (o : Order) → wrongBy (l .state) n (asksOf o) ≡ false → Named (asksOf o .who)
-      → performOf l n y m f room s (planOf y m f fresh (l .flags) (l .state) o) ≡ orderOf l y m f fresh room s o
-  handled n o w h =
-      ap (λ (k : ℕ). performOf l k y m f room s (planOf y m f fresh (l .flags) (l .state) o)) (passes-handle (l .state) (asksOf o) n w h) ∙ plan-performs o
-
-  any-handle : (n : ℕ) (b : Bool) (st : State) (g : Flags) (a k : ℕ) → performOf l n y m f room s (cond b (plan.Epc st a k) (plan.Turn (fallen (l .state)) g))
-      ≡ performOf l (linkOf (l .state) .handle) y m f room s (cond b (plan.Epc st a k) (plan.Turn (fallen (l .state)) g))
-  any-handle n true st g a k = refl
-  any-handle n false st g a k = refl
-
-  -- the plans of orders to every tag need no handle; every other order that passes carries it
-  pub handle-performs : (n : ℕ) (o : Order) → wrongBy (l .state) n (asksOf o) ≡ false
-      → performOf l n y m f room s (planOf y m f fresh (l .flags) (l .state) o) ≡ orderOf l y m f fresh room s o
-  handle-performs n (order.QueryRep k) w = plan-performs (order.QueryRep k)
-  handle-performs n (order.Ack k) w = any-handle n (eqb (linkOf (l .state) .handle) k) _ (l .flags) _ _ ∙ plan-performs (order.Ack k)
-  handle-performs n (order.Query sel t r) w = plan-performs (order.Query sel t r)
-  handle-performs n (order.QueryAdjust k u) w = plan-performs (order.QueryAdjust k u)
-  handle-performs n (order.Select c p) w = plan-performs (order.Select c p)
-  handle-performs n order.Nak w = plan-performs order.Nak
-  handle-performs n order.ReqRn w = handled n order.ReqRn w tt
-  handle-performs n (order.Read p) w = handled n (order.Read p) w tt
-  handle-performs n (order.Write p v) w = handled n (order.Write p v) w tt
-  handle-performs n (order.Kill h) w = handled n (order.Kill h) w tt
-  handle-performs n (order.Lock mask action) w = handled n (order.Lock mask action) w tt
-  handle-performs n (order.Access h) w = handled n (order.Access h) w tt
-  handle-performs n (order.BlockWrite p b) w = handled n (order.BlockWrite p b) w tt
-  handle-performs n (order.BlockErase p) w = handled n (order.BlockErase p) w tt
-  handle-performs n (order.ReadPermalock r p) w = handled n (order.ReadPermalock r p) w tt
-  handle-performs n (order.Permalock r p b) w = handled n (order.Permalock r p b) w tt
-
--- a command's three ways: wrong, broken, or by its order
-module _ (l : Live) (y : Layout) (m f : List ℕ) (fresh : ℕ) (room : List ℕ) (s : ℕ) (c : Command) where
-  broken : Bool
-  broken = breaks y m (linkOf (l .state)) (linkOf (l .state) .half) (asksOf (c .order) .part)
-
-  past : Bool → Result
-  past t = cond t (result (droppedWith l answer.Password) m room) (orderOf l y m f fresh room s (c .order))
-
-  pub command-wrong : wrongCommand (l .state) c ≡ true → kept 9 l m room ≡ commandOf l y m f fresh room s c
-  unfolding commandOf broken past
-  command-wrong e = sym (ap (λ (b : Bool). cond b (kept 9 l m room) (past broken)) e)
-
-  pub command-broken : wrongCommand (l .state) c ≡ false → breaks y m (linkOf (l .state)) (linkOf (l .state) .half) (asksOf (c .order) .part) ≡ true
-      → result (droppedWith l answer.Password) m room ≡ commandOf l y m f fresh room s c
-  unfolding commandOf broken past
-  command-broken e b = sym (ap (λ (t : Bool). cond t (kept 9 l m room) (past broken)) e ∙ ap past b)
-
-  pub command-order : wrongCommand (l .state) c ≡ false → breaks y m (linkOf (l .state)) (linkOf (l .state) .half) (asksOf (c .order) .part) ≡ false
-      → orderOf l y m f fresh room s (c .order) ≡ commandOf l y m f fresh room s c
-  unfolding commandOf broken past
-  command-order e b = sym (ap (λ (t : Bool). cond t (kept 9 l m room) (past broken)) e ∙ ap past b)
+  pub plan-sound : (v : Numbers) (o : Order) → Placed o → Sound (y .work .at) (length m) (planOf y m f v o)
+  plan-sound v (order.QueryRep k) q = tt
+  plan-sound v (order.Ack n) q = tt
+  plan-sound v (order.Query sel t r) q = tt
+  plan-sound v (order.QueryAdjust k u) q = tt
+  plan-sound v (order.Select c p) q = tt
+  plan-sound v order.Nak q = tt
+  plan-sound v order.ReqRn q = tt
+  plan-sound v (order.Read s) q = code-sound _ _ (readCode y m (eqb (v .state) 6) s) _ (read-fits y m g m (eqb (v .state) 6) s)
+  plan-sound v (order.Write s w) q = code-sound _ _ (writeCode y m (eqb (v .state) 6) s (bareOf v w)) _ (word-held y m g m (eqb (v .state) 6) s _)
+  plan-sound v (order.Kill h) q = kill-sound (eqb (v .half) 0) (zeroKill y m) (bareOf v h)
+  plan-sound v (order.Lock mask action) q = code-sound _ _ (lockCode y m mask action) _ (λ e. lock-held y m g)
+  plan-sound v (order.Access h) q = access-sound (eqb (v .half) 0) (bareOf v h)
+  plan-sound v (order.BlockWrite s p) q =
+      code-sound _ _ (writeCode y m (eqb (v .state) 6) s (fieldAt f (p + 16 * (1 - s .pointer)) 16)) _ (λ e. (words-held y m g m (eqb (v .state) 6) s _ e, q))
+  plan-sound v (order.BlockErase s) q = code-sound _ _ (writeCode y m (eqb (v .state) 6) s 0) _ (words-held y m g m (eqb (v .state) 6) s 0)
+  plan-sound v (order.ReadPermalock r s) q = code-sound _ _ (permaReadCode y s) _ (read-perma-fits y m g m true s)
+  plan-sound v (order.Permalock r s p) q = code-sound _ _ (permaCode y m s f p) _ (λ e. let h = mask-held y m g m true s f p e in (h .0, q, h .1))

@@ -3,6 +3,9 @@ pub mod Result
 pub mod Power
 pub mod Table
 pub mod Port
+pub mod Records
 pub mod One
 pub mod Steps
 pub mod PortSteps
+pub mod RecordSteps
+pub mod ByNumber

@@ -1,11 +1,11 @@
--- Outcomes, plans and the table's ends as the code makes them. Assumes nothing.
-use Prim.Native.Nat.{ℕ, _+_, _*_, _≤_, _<_}
+-- Outcomes as the code makes them; the table's ends, of whatever stands for the session; and steps over a session, between the table and the code's own (ByNumber).
+-- Assumes nothing.
+use Prim.Native.Nat.{ℕ, _+_, _*_}
 use mathlib.Core.Bool.{cond, not}
-use mathlib.Core.List.{List, [], _∷_}
+use mathlib.Core.List.{List, []}
 use lib.Dec.{eqb, ltb}
-use lib.ListN.{length}
-use Rattle.bits.specs.Words.{Store, store, after}
-use Rattle.bits.specs.Below.{below}
+use lib.ListN.{length, take}
+use Rattle.bits.specs.Words.{Store, after}
 use Rattle.image.specs.declared.Layout.{Layout}
 use Rattle.image.specs.Content.{killedWord}
 use Rattle.image.specs.Steps.{readyRow}
@@ -21,10 +21,6 @@ use Rattle.rights.specs.declared.Code.{Code}
 use Rattle.rights.specs.declared.Code.the-variants as code
 use Rattle.rights.specs.Rights.{faultNumber}
 use Rattle.stores.specs.Stores.{changeStores, powerStores}
-use Rattle.stores.specs.Steps.{wordFrom}
-use Rattle.changes.specs.Changes.{Holds, orTo}
-use Rattle.plans.specs.declared.Plan.{Plan}
-use Rattle.plans.specs.declared.Plan.the-variants as plan
 use Rattle.states.specs.declared.State.{State}
 use Rattle.states.specs.declared.State.the-variants as state
 use Rattle.tag.specs.declared.Live.{Live}
@@ -35,10 +31,10 @@ use Rattle.tag.specs.declared.Answer.{Answer}
 use Rattle.tag.specs.declared.Answer.the-variants as answer
 use Rattle.tag.specs.declared.Outcome.{Outcome}
 use Rattle.tag.specs.Session.{offSession, newSession}
-use Rattle.tag.specs.Result.{Result, leaves, lost, result}
+use Rattle.tag.specs.Result.{Left, Result, leaves, lost, result}
 use Rattle.states.specs.Commands.{asksOf, linkOf, breaks, used, fallen}
 use Rattle.states.specs.Steps.{wrongCommand}
-use Rattle.plans.specs.Effects.{Scene, Effect, drawnReply, effectOf}
+use Rattle.plans.specs.Effects.{Scene, Effect, effectOf}
 use Rattle.tag.specs.Table.{Input, fits, turnedTo, movedTo}
 
 -- an answer with its reply's length and the stores made
@@ -63,8 +59,11 @@ abbrev pub heldRow : Power → ℕ
 heldRow p = sessionRow p 0 6
 
 -- the number of the first of the rows 1, 2, 3, 5 and 6 that holds, or 0, by the session's h
+abbrev pub frontBy : ℕ → ℕ → ℕ
+frontBy h row = cond (eqb row 0) h row
+
 unfoldable pub frontRow : ℕ → List ℕ → ℕ
-frontRow h m = cond (eqb (readyRow m) 0) h (readyRow m)
+frontRow h m = frontBy h (readyRow m)
 
 -- the first state of an image
 abbrev pub firstIn : Layout → List ℕ → State
@@ -92,61 +91,36 @@ refusedWith l a = record { answer = a; session = onSession l; reply = 0; stores 
 abbrev pub kept : ℕ → Live → List ℕ → List ℕ → Result
 kept n l m room = leaves n (onSession l) m room
 
--- an error's reply, or no room for it
-unfoldable pub errorEnd : Live → ℕ → List ℕ → List ℕ → ℕ → Result
-errorEnd l h m room e =
+-- what is left, by what stands for the session: everything; a reply and stores
+abbrev pub stays : {S : Type 0} → ℕ → S → List ℕ → List ℕ → Left S
+stays n v m room = record { number = n; session = v; reply = 0; stores = 0; value = 0; image = m; room = room }
+
+abbrev pub tells : {S : Type 0} → ℕ → S → ℕ → ℕ → List ℕ → List ℕ → Left S
+tells n v reply stores m room = record { number = n; session = v; reply = reply; stores = stores; value = 0; image = m; room = room }
+
+-- an error's reply with another session, or no room for it
+unfoldable pub errorBy : {S : Type 0} → S → S → ℕ → List ℕ → List ℕ → ℕ → Left S
+errorBy old new h m room e =
     let r = reply.Error e h in
-    cond (fits r room) (gives 10 (movedTo l (used (l .state))) (replyLength r) 0 m (packed (replyBits m r) room)) (kept 4 l m room)
+    cond (fits r room) (tells 10 new (replyLength r) 0 m (packed (replyBits m r) room)) (stays 4 old m room)
 
--- no room for the reply, too little power, or done with the session v; WORK is at word w
-unfoldable pub doneEnd : Live → ℕ → List ℕ → List ℕ → ℕ → Reply → Session → List Store → Result
-doneEnd l w m room s r v ss =
+-- no room for the reply, too little power, or done with another session; WORK is at word w
+unfoldable pub doneBy : {S : Type 0} → S → S → ℕ → List ℕ → List ℕ → ℕ → Reply → S → List Store → Left S
+doneBy off old w m room s r new ss =
     let stores = changeStores w ss in
-    cond (not (fits r room)) (kept 4 l m room)
-    (cond (ltb s (length stores)) (lost m stores s room)
-    (gives 0 v (replyLength r) (length stores) (after m stores) (packed (replyBits m r) room)))
+    cond (not (fits r room)) (stays 4 old m room)
+    (cond (ltb s (length stores)) (tells 11 off 0 s (after m (take s stores)) room)
+    (tells 0 new (replyLength r) (length stores) (after m stores) (packed (replyBits m r) room)))
 
--- a reply without a store: no room for it, or done
-abbrev pub tellEnd : Live → List ℕ → List ℕ → Reply → Session → Result
-tellEnd l m room r v = doneEnd l 0 m room 0 r v []
+abbrev pub errorEnd : Live → ℕ → List ℕ → List ℕ → ℕ → Result
+errorEnd l h m room e = errorBy (onSession l) (movedTo l (used (l .state))) h m room e
 
--- after so many of the stores that were needed: too little power, or done
-unfoldable pub storeEnd : Live → ℕ → State → List ℕ → List ℕ → ℕ → ℕ → ℕ → Result
-storeEnd l h st m room made need s =
-    let r = reply.Success h in
-    cond (ltb s need) (gives 11 offSession 0 made m room)
-    (gives 0 (movedTo l st) (replyLength r) made m (packed (replyBits m r) room))
+abbrev pub doneEnd : Live → ℕ → List ℕ → List ℕ → ℕ → Reply → Session → List Store → Result
+doneEnd l w m room s r v ss = doneBy offSession (onSession l) w m room s r v ss
 
 -- how many stores a change of c words needs
 abbrev pub neededFor : ℕ → ℕ
 neededFor c = cond (eqb c 0) 0 (3 * c + 2)
-
--- a plan that an image of n bytes with WORK at word w can take
-abbrev pub Sound : ℕ → ℕ → Plan → Type 0
-Sound w n (plan.Error e) = Unit {0}
-Sound w n (plan.Turn st f) = Unit {0}
-Sound w n (plan.Epc st at k) = (2 * (at + k) ≤ n) × (k < 65536)
-Sound w n (plan.Number st k) = Unit {0}
-Sound w n (plan.Words st at k) = (2 * (at + k) ≤ n) × (k < 65536)
-Sound w n (plan.Word st v at) = Holds w at 1 n
-Sound w n (plan.Bits st at k p) = Holds w at k n × (p ≤ 51)
-Sound w n (plan.Zeros st at k) = Holds w at k n
-Sound w n (plan.Mask st at k p) = Holds w at k n × (p ≤ 51) × (k ≤ 16)
-
--- what a plan comes to, with this handle
-abbrev pub storedEnd : Live → ℕ → ℕ → List ℕ → List ℕ → ℕ → State → List Store → Result
-storedEnd l h w m room s st ss = doneEnd l w m room s (reply.Success h) (movedTo l st) ss
-
-abbrev pub performOf : Live → ℕ → Layout → List ℕ → List ℕ → List ℕ → ℕ → Plan → Result
-performOf l h y m f room s (plan.Error e) = errorEnd l h m room (faultNumber e)
-performOf l h y m f room s (plan.Turn st g) = doneEnd l (y .work .at) m room s (drawnReply st) (turnedTo l g st) []
-performOf l h y m f room s (plan.Epc st at k) = doneEnd l (y .work .at) m room s (reply.Epc at k) (movedTo l st) []
-performOf l h y m f room s (plan.Number st n) = doneEnd l (y .work .at) m room s (reply.Number n) (movedTo l st) []
-performOf l h y m f room s (plan.Words st at k) = doneEnd l (y .work .at) m room s (reply.Words at k h) (movedTo l st) []
-performOf l h y m f room s (plan.Word st v at) = storedEnd l h (y .work .at) m room s st (store at v ∷ [])
-performOf l h y m f room s (plan.Bits st at n p) = storedEnd l h (y .work .at) m room s st (below (wordFrom at f p) n)
-performOf l h y m f room s (plan.Zeros st at n) = storedEnd l h (y .work .at) m room s st (below (λ j. store (at + j) 0) n)
-performOf l h y m f room s (plan.Mask st at n p) = storedEnd l h (y .work .at) m room s st (below (orTo m f at p) n)
 
 -- an order that no refusal stops, by its error code
 abbrev pub endBy : Code → Live → ℕ → List ℕ → List ℕ → ℕ → Effect → Result

@@ -1,8 +1,8 @@
-// What every call with an image asks first: the answers 1, 2, 3, 5 and 6, as numbers of the table (RULES 5).
+// The first answers of a call with an image, 1, 2, 3, 5 and 6, as numbers of the table, and the answer of a number (RULES 5).
 ghost use mathlib.Core.Path.{_≡_};
 ghost use Prim.Native.Nat.{_≤_};
 ghost use Rattle.tag.specs.Session.{numberOf};
-ghost use Rattle.tag.specs.Steps.{keptWith, sessionRow, frontRow};
+ghost use Rattle.tag.specs.Steps.{keptWith, heldRow, frontBy, frontRow};
 use crate::Answer;
 use crate::Outcome;
 use crate::Power;
@@ -44,18 +44,28 @@ pub fn answer_of(n: u8) -> Answer
     }
 }
 
-// A session's own answer: 5 where it is Off, else one number where the port is held and one where it is free.
-pub fn session_row(session: Session, held: u8, free: u8) -> u8
-    ensures { λ r. ⌜ r ≡ sessionRow (session .power) held free ⌝ }
+// The answer of an Off session: the image's, or 5.
+pub fn or_five(row: u8) -> u8
+    ensures { λ r. ⌜ r ≡ frontBy 5 row ⌝ }
+{
+    if row == 0 {
+        return 5;
+    }
+    row
+}
+
+// A session's own answer to the port's transfers: 5 where it is Off, 6 where the port is free, or 0.
+pub fn held_row(session: Session) -> u8
+    ensures { λ r. ⌜ r ≡ heldRow (session .power) ⌝ }
 {
     let power = session.power;
     match power {
         Power::Off => 5,
         Power::On(l) => {
             if l.held {
-                return held;
+                return 0;
             }
-            free
+            6
         }
     }
 }

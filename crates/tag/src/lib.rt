@@ -5,17 +5,26 @@ ghost use Rattle.tag.specs.Session.{numberOf};
 mod acting;
 mod answering;
 mod front;
+mod inventory;
+mod noting;
 mod port;
 mod radio;
+mod recording;
 mod starting;
 
 pub use frames::Round;
 pub use port::read_words;
+pub use radio::frame;
+pub use recording::fits;
+pub use recording::off_record;
+pub use recording::record_of;
+pub use recording::session_of;
 pub use starting::power_up;
 pub use states::Cover;
 pub use states::Flags;
 pub use states::Half;
 pub use states::Link;
+use states::Record;
 pub use states::State;
 
 // The port's error register: bit 1, some word wasn't written; bit 0, killed.
@@ -66,6 +75,14 @@ pub struct Outcome {
     pub reply: usize,
     pub stores: usize,
     pub value: usize,
+}
+
+// The same of a frame, which reads no register, over the session's record.
+pub struct Noted {
+    pub answer: Answer,
+    pub session: Record,
+    pub reply: usize,
+    pub stores: usize,
 }
 
 // An answer's number in the table (RULES 5).

@@ -332,7 +332,7 @@ impl Session {
         ensures { λ r. ⌜ result r (now (image .entry)) (now (room .exit)) ≡ firstOf (readOf self (now (image .entry)) at count (now (room .entry))) ⌝ }
     {
         let dead = is_dead(self);
-        let row = read_words(front::session_row(self, 0, 6), dead, image, at, count, room);
+        let row = read_words(front::held_row(self), dead, image, at, count, room);
         if row != 0 {
             return front::unmoved(self, front::answer_of(row));
         }
@@ -346,7 +346,7 @@ impl Session {
     pub fn write(self, image: &mut [u8], at: usize, words: &[u8], s: usize) -> Outcome
         ensures { λ r. ⌜ result r (now (image .exit)) [] ≡ firstOf (writeOf changeStores self (now (image .entry)) at (now (words .entry)) s) ⌝ }
     {
-        let row = front::front(front::session_row(self, 0, 6), image);
+        let row = front::front(front::held_row(self), image);
         if row != 0 {
             return front::unmoved(self, front::answer_of(row));
         }

@@ -20,25 +20,25 @@ use Rattle.tag.proofs.Session.write.Statement.{statement}
 use Rattle.tag.proofs.Session.write.Tie as tie
 
 answer-of-requires : tie.Need-answer-of-requires
-answer-of-requires c κs = let a = c .before .before .before .before .before .before .args in let m = now (a .image) in write-few m (a .at) (now (a .words)) (a .s) (a .self) (c .before .before .before .session-row .ensures) (c .before .front .ensures)
+answer-of-requires c κs = let a = c .before .before .before .before .before .before .args in let m = now (a .image) in write-few m (a .at) (now (a .words)) (a .s) (a .self) (c .before .before .before .held-row .ensures) (c .before .front .ensures)
 
 returns : tie.Need-returns
-returns c = let a = c .before .before .before .before .before .before .before .before .args in let m = now (a .image) in rw (c .unmoved .ensures) (ap (λ (n : ℕ). leaves n (a .self) m []) (c .before .answer-of .ensures) ∙ write-stops m (a .at) (now (a .words)) (a .s) (a .self) (c .before .before .before .before .before .session-row .ensures) (c .before .before .before .front .ensures) (c .before .before .if1 .taken))
+returns c = let a = c .before .before .before .before .before .before .before .before .args in let m = now (a .image) in rw (c .unmoved .ensures) (ap (λ (n : ℕ). leaves n (a .self) m []) (c .before .answer-of .ensures) ∙ write-stops m (a .at) (now (a .words)) (a .s) (a .self) (c .before .before .before .before .before .held-row .ensures) (c .before .before .before .front .ensures) (c .before .before .if1 .taken))
 
 returns-2 : tie.Need-returns-2
-returns-2 c = let a = c .before .before .before .before .before .before .before .before .before .args in let m = now (a .image) in absurd (passed-on (subst (λ (p : Power). Passed p m (not (liveOf p .held))) (c .before .enum-told .given .1) (write-passes m (a .at) (now (a .words)) (a .s) (a .self) (c .before .before .before .before .before .before .session-row .ensures) (c .before .before .before .before .front .ensures) (c .before .before .before .if1 .left))))
+returns-2 c = let a = c .before .before .before .before .before .before .before .before .before .args in let m = now (a .image) in absurd (passed-on (subst (λ (p : Power). Passed p m (not (liveOf p .held))) (c .before .enum-told .given .1) (write-passes m (a .at) (now (a .words)) (a .s) (a .self) (c .before .before .before .before .before .before .held-row .ensures) (c .before .before .before .before .front .ensures) (c .before .before .before .if1 .left))))
 
 read-layout-requires : tie.Need-read-layout-requires
-read-layout-requires c κs = let a = c .before .before .before .before .before .before .before .before .before .before .args in let m = now (a .image) in let h = passed-good (write-passes m (a .at) (now (a .words)) (a .s) (a .self) (c .before .before .before .before .before .before .before .session-row .ensures) (c .before .before .before .before .before .front .ensures) (c .before .before .before .before .if1 .left)) .header in omega arith
+read-layout-requires c κs = let a = c .before .before .before .before .before .before .before .before .before .before .args in let m = now (a .image) in let h = passed-good (write-passes m (a .at) (now (a .words)) (a .s) (a .self) (c .before .before .before .before .before .before .before .held-row .ensures) (c .before .before .before .before .before .front .ensures) (c .before .before .before .before .if1 .left)) .header in omega arith
 
 returns-3 : tie.Need-returns-3
-returns-3 c = let a = c .before .before .before .before .before .before .before .before .before .before .before .before .before .before .args in let m = now (a .image) in let l : Live = c .before .before .before .before .before .before .power .given .0 .0 in let e : a .self ≡ onSession l = ap (λ (p : Power). record { power = p }) (c .before .before .before .before .before .before .power .given .1) in rw (c .refused .ensures) (write-counts m (a .at) (now (a .words)) (a .s) l (subst (λ (p : Power). Passed p m (not (liveOf p .held))) (c .before .before .before .before .before .before .power .given .1) (write-passes m (a .at) (now (a .words)) (a .s) (a .self) (c .before .before .before .before .before .before .before .before .before .before .before .session-row .ensures) (c .before .before .before .before .before .before .before .before .before .front .ensures) (c .before .before .before .before .before .before .before .before .if1 .left))) (sym (rw (c .before .before .before .read-layout .ensures) at (c .before .before .bad-data .ensures)) ∙ c .before .if2 .taken) ∙ ap (λ (v : Session). firstOf (writeOf changeStores v m (a .at) (now (a .words)) (a .s))) (sym e))
+returns-3 c = let a = c .before .before .before .before .before .before .before .before .before .before .before .before .before .before .args in let m = now (a .image) in let l : Live = c .before .before .before .before .before .before .power .given .0 .0 in let e : a .self ≡ onSession l = ap (λ (p : Power). record { power = p }) (c .before .before .before .before .before .before .power .given .1) in rw (c .refused .ensures) (write-counts m (a .at) (now (a .words)) (a .s) l (subst (λ (p : Power). Passed p m (not (liveOf p .held))) (c .before .before .before .before .before .before .power .given .1) (write-passes m (a .at) (now (a .words)) (a .s) (a .self) (c .before .before .before .before .before .before .before .before .before .before .before .held-row .ensures) (c .before .before .before .before .before .before .before .before .before .front .ensures) (c .before .before .before .before .before .before .before .before .if1 .left))) (sym (rw (c .before .before .before .read-layout .ensures) at (c .before .before .bad-data .ensures)) ∙ c .before .if2 .taken) ∙ ap (λ (v : Session). firstOf (writeOf changeStores v m (a .at) (now (a .words)) (a .s))) (sym e))
 
 store-requires : tie.Need-store-requires
-store-requires c κs = let a = c .before .before .before .before .before .before .before .before .before .before .before .before .before .before .args in let m = now (a .image) in (rw (c .before .before .before .read-layout .ensures) (passed-good (write-passes m (a .at) (now (a .words)) (a .s) (a .self) (c .before .before .before .before .before .before .before .before .before .before .before .session-row .ensures) (c .before .before .before .before .before .before .before .before .before .front .ensures) (c .before .before .before .before .before .before .before .before .if1 .left))), sym (c .before .before .bad-data .ensures) ∙ c .before .if2 .left)
+store-requires c κs = let a = c .before .before .before .before .before .before .before .before .before .before .before .before .before .before .args in let m = now (a .image) in (rw (c .before .before .before .read-layout .ensures) (passed-good (write-passes m (a .at) (now (a .words)) (a .s) (a .self) (c .before .before .before .before .before .before .before .before .before .before .before .held-row .ensures) (c .before .before .before .before .before .before .before .before .before .front .ensures) (c .before .before .before .before .before .before .before .before .if1 .left))), sym (c .before .before .bad-data .ensures) ∙ c .before .if2 .left)
 
 returns-4 : tie.Need-returns-4
-returns-4 c = let a = c .before .before .before .before .before .before .before .before .before .before .before .before .before .before .before .before .before .args in let m = now (a .image) in let l : Live = c .before .before .before .before .before .before .before .before .before .power .given .0 .0 in let e : a .self ≡ onSession l = ap (λ (p : Power). record { power = p }) (c .before .before .before .before .before .before .before .before .before .power .given .1) in (rw (c .before .before .before .before .before .before .read-layout .ensures) at (c .before .before .store .ensures)) ∙ write-live m (a .at) (now (a .words)) (a .s) l (subst (λ (p : Power). Passed p m (not (liveOf p .held))) (c .before .before .before .before .before .before .before .before .before .power .given .1) (write-passes m (a .at) (now (a .words)) (a .s) (a .self) (c .before .before .before .before .before .before .before .before .before .before .before .before .before .before .session-row .ensures) (c .before .before .before .before .before .before .before .before .before .before .before .before .front .ensures) (c .before .before .before .before .before .before .before .before .before .before .before .if1 .left))) (sym (rw (c .before .before .before .before .before .before .read-layout .ensures) at (c .before .before .before .before .before .bad-data .ensures)) ∙ c .before .before .before .before .if2 .left) ∙ ap (λ (v : Session). firstOf (writeOf changeStores v m (a .at) (now (a .words)) (a .s))) (sym e)
+returns-4 c = let a = c .before .before .before .before .before .before .before .before .before .before .before .before .before .before .before .before .before .args in let m = now (a .image) in let l : Live = c .before .before .before .before .before .before .before .before .before .power .given .0 .0 in let e : a .self ≡ onSession l = ap (λ (p : Power). record { power = p }) (c .before .before .before .before .before .before .before .before .before .power .given .1) in (rw (c .before .before .before .before .before .before .read-layout .ensures) at (c .before .before .store .ensures)) ∙ write-live m (a .at) (now (a .words)) (a .s) l (subst (λ (p : Power). Passed p m (not (liveOf p .held))) (c .before .before .before .before .before .before .before .before .before .power .given .1) (write-passes m (a .at) (now (a .words)) (a .s) (a .self) (c .before .before .before .before .before .before .before .before .before .before .before .before .before .before .held-row .ensures) (c .before .before .before .before .before .before .before .before .before .before .before .before .front .ensures) (c .before .before .before .before .before .before .before .before .before .before .before .if1 .left))) (sym (rw (c .before .before .before .before .before .before .read-layout .ensures) at (c .before .before .before .before .before .bad-data .ensures)) ∙ c .before .before .before .before .if2 .left) ∙ ap (λ (v : Session). firstOf (writeOf changeStores v m (a .at) (now (a .words)) (a .s))) (sym e)
 
 pub write-spec : {M : Type 1} → statement M
 write-spec =
