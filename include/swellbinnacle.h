@@ -41,27 +41,27 @@ enum { TAG_OFF, TAG_READY, TAG_ARBITRATE, TAG_REPLY, TAG_ACKNOWLEDGED, TAG_OPEN,
 /* tag_session.half */
 enum { TAG_NO_HALF, TAG_ACCESS_HALF, TAG_KILL_HALF };
 
+/* tag_session.flags: any of these together. The inventoried flag of S0 to S3 is B; SL is asserted */
+enum { TAG_FLAG_S0 = 1, TAG_FLAG_S1 = 2, TAG_FLAG_S2 = 4, TAG_FLAG_S3 = 8, TAG_FLAG_SL = 16 };
+
 /* A session. Keep it from one call to the next; all fields 0 is Off. A record that no session is written as, as with an unknown state or a
    number where none belongs, is answered as Off. A round above 3, a Q above 15 or a slot above 7FFFh comes from no power-up and no frame; a
-   record with one is answered like any other (RULES 10.3, 11.2). The byte of padding after `sl` means nothing. */
+   record with one is answered like any other (RULES 10.3, 11.2).
+   It is 16 bytes without padding, aligned to 8. To the library it is two numbers of 64 bits: `state` is the lowest byte of the first and
+   `flags` its highest, `number` the lowest 16 bits of the second and `slot` its highest (RULES 10.1). */
 struct tag_session {
-    uint8_t state;     /* TAG_OFF .. */
-    uint8_t held;      /* 1: the port is held */
-    uint8_t unwritten; /* 1: register bit 1, some word was not written */
-    uint8_t killed;    /* 1: register bit 0, killed */
-    uint8_t covered;   /* 1: there is a cover number (Open, Secured) */
-    uint8_t half;      /* TAG_NO_HALF .. : the password half that waits (Open, Secured) */
-    uint8_t round;     /* Arbitrate to Secured: the round's session, 0 to 3; else 0 */
-    uint8_t q;         /* Arbitrate to Secured: the round's Q, 0 to 15; else 0 */
-    uint8_t s0;        /* the inventoried flags of the sessions S0 to S3, 0: A, 1: B; 0 in Off */
-    uint8_t s1;
-    uint8_t s2;
-    uint8_t s3;
-    uint8_t sl;        /* 1: SL is asserted; 0 in Off */
-    uint16_t number;   /* Reply, Acknowledged: the number replied; Open, Secured: the handle; else 0 */
-    uint16_t cover;    /* the cover number; 0 where there is none */
-    uint16_t upper;    /* the half that waits, uncovered; 0 where there is none */
-    uint16_t slot;     /* Arbitrate: the slot counter, 0 to 7FFFh; else 0 */
+    _Alignas(8) uint8_t state; /* TAG_OFF .. */
+    uint8_t held;              /* 1: the port is held; 0 in Off */
+    uint8_t reg;               /* the error register, 0 to 3: bit 1 some word was not written, bit 0 killed; 0 in Off */
+    uint8_t covered;           /* 1: there is a cover number (Open, Secured) */
+    uint8_t half;              /* TAG_NO_HALF .. : the password half that waits (Open, Secured) */
+    uint8_t round;             /* Arbitrate to Secured: the round's session, 0 to 3; else 0 */
+    uint8_t q;                 /* Arbitrate to Secured: the round's Q, 0 to 15; else 0 */
+    uint8_t flags;             /* TAG_FLAG_S0 .. : bits 0 to 3, the inventoried flag of S0 to S3 is B; bit 4, SL is asserted; 0 in Off */
+    uint16_t number;           /* Reply, Acknowledged: the number replied; Open, Secured: the handle; else 0 */
+    uint16_t cover;            /* the cover number; 0 where there is none */
+    uint16_t upper;            /* the half that waits, uncovered; 0 where there is none */
+    uint16_t slot;             /* Arbitrate: the slot counter, 0 to 7FFFh; else 0 */
 };
 
 /* What a call hands back. Padding is not set: compare fields, not bytes. */
@@ -129,18 +129,15 @@ struct tag_outcome tag_write(struct tag_session session, uint8_t *image, size_t 
 
 /* The layout that the library was compiled for: x86-64, in C11. */
 _Static_assert(sizeof(size_t) == 8, "size_t");
-_Static_assert(sizeof(struct tag_session) == 22 && _Alignof(struct tag_session) == 2, "tag_session");
+_Static_assert(sizeof(struct tag_session) == 16 && _Alignof(struct tag_session) == 8, "tag_session");
 _Static_assert(offsetof(struct tag_session, state) == 0 && offsetof(struct tag_session, held) == 1, "state, held");
-_Static_assert(offsetof(struct tag_session, unwritten) == 2 && offsetof(struct tag_session, killed) == 3, "unwritten, killed");
-_Static_assert(offsetof(struct tag_session, covered) == 4 && offsetof(struct tag_session, half) == 5, "covered, half");
-_Static_assert(offsetof(struct tag_session, round) == 6 && offsetof(struct tag_session, q) == 7, "round, q");
-_Static_assert(offsetof(struct tag_session, s0) == 8 && offsetof(struct tag_session, s1) == 9, "s0, s1");
-_Static_assert(offsetof(struct tag_session, s2) == 10 && offsetof(struct tag_session, s3) == 11, "s2, s3");
-_Static_assert(offsetof(struct tag_session, sl) == 12 && offsetof(struct tag_session, number) == 14, "sl, number");
-_Static_assert(offsetof(struct tag_session, cover) == 16 && offsetof(struct tag_session, upper) == 18, "cover, upper");
-_Static_assert(offsetof(struct tag_session, slot) == 20, "slot");
+_Static_assert(offsetof(struct tag_session, reg) == 2 && offsetof(struct tag_session, covered) == 3, "reg, covered");
+_Static_assert(offsetof(struct tag_session, half) == 4 && offsetof(struct tag_session, round) == 5, "half, round");
+_Static_assert(offsetof(struct tag_session, q) == 6 && offsetof(struct tag_session, flags) == 7, "q, flags");
+_Static_assert(offsetof(struct tag_session, number) == 8 && offsetof(struct tag_session, cover) == 10, "number, cover");
+_Static_assert(offsetof(struct tag_session, upper) == 12 && offsetof(struct tag_session, slot) == 14, "upper, slot");
 _Static_assert(sizeof(struct tag_outcome) == 48 && _Alignof(struct tag_outcome) == 8, "tag_outcome");
-_Static_assert(offsetof(struct tag_outcome, answer) == 0 && offsetof(struct tag_outcome, session) == 2, "answer, session");
+_Static_assert(offsetof(struct tag_outcome, answer) == 0 && offsetof(struct tag_outcome, session) == 8, "answer, session");
 _Static_assert(offsetof(struct tag_outcome, reply) == 24 && offsetof(struct tag_outcome, stores) == 32, "reply, stores");
 _Static_assert(offsetof(struct tag_outcome, value) == 40, "value");
 _Static_assert(sizeof(struct tag_place) == 4 && offsetof(struct tag_place, at) == 0 && offsetof(struct tag_place, words) == 2, "tag_place");

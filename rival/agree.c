@@ -107,13 +107,8 @@ static struct tag_session session_random(const uint8_t *m) {
     s.state = states[below(sizeof states)];
     if (!s.state) return s;
     s.held = (uint8_t)(has_link(&s) ? one_in(12) : one_in(3));
-    s.unwritten = (uint8_t)one_in(4);
-    s.killed = (uint8_t)one_in(4);
-    s.s0 = (uint8_t)below(2);
-    s.s1 = (uint8_t)below(2);
-    s.s2 = (uint8_t)below(2);
-    s.s3 = (uint8_t)below(2);
-    s.sl = (uint8_t)below(2);
+    s.reg = (uint8_t)(one_in(2) ? below(4) : 0);
+    s.flags = (uint8_t)below(32);
     if (!has_round(&s)) return s;
     s.round = (uint8_t)below(4);
     s.q = (uint8_t)(one_in(2) ? below(3) : below(16));
@@ -130,32 +125,27 @@ static struct tag_session session_random(const uint8_t *m) {
 
 /* another value in one field. Rounds, Qs and slots that no tag comes to are left out where they belong. */
 static void field_random(struct tag_session *s) {
-    uint8_t *small[] = {&s->state, &s->held, &s->unwritten, &s->killed, &s->covered, &s->half, &s->round,
-                        &s->q,     &s->s0,   &s->s1,        &s->s2,     &s->s3,      &s->sl};
+    uint8_t *small[] = {&s->state, &s->held, &s->reg, &s->covered, &s->half, &s->round, &s->q, &s->flags};
     uint16_t *large[] = {&s->number, &s->cover, &s->upper, &s->slot};
-    unsigned i = below(17);
-    if (i < 13) *small[i] = (uint8_t)(one_in(2) ? below(9) : below(256));
-    else *large[i - 13] = (uint16_t)(one_in(2) ? below(3) : any16());
+    unsigned i = below(12);
+    if (i < 8) *small[i] = (uint8_t)(one_in(2) ? below(9) : one_in(2) ? below(40) : below(256));
+    else *large[i - 8] = (uint16_t)(one_in(2) ? below(3) : any16());
     if (has_round(s)) s->round &= 3, s->q &= 15;
     if (s->state == TAG_ARBITRATE) s->slot &= 0x7FFF;
 }
 
 /* a record that no session is written as; the library takes it for Off, and the rivals are handed Off */
 static int no_session(const struct tag_session *s) {
-    int flags = s->s0 | s->s1 | s->s2 | s->s3 | s->sl, port = s->held | s->unwritten | s->killed;
-    if (s->state > TAG_KILLED || s->half > TAG_KILL_HALF || (flags | port | s->covered) > 1) return 1;
-    if (s->state == TAG_OFF && (flags | port)) return 1;
+    if (s->state > TAG_KILLED || s->half > TAG_KILL_HALF || s->held > 1 || s->covered > 1 || s->reg > 3 || s->flags > 31) return 1;
+    if (s->state == TAG_OFF && (s->held | s->reg | s->flags)) return 1;
     if (!has_round(s) && (s->round | s->q)) return 1;
     if (!has_link(s) && (s->covered | s->half)) return 1;
     if ((!has_round(s) || s->state == TAG_ARBITRATE) && s->number) return 1;
     return (!s->covered && s->cover) || (!s->half && s->upper) || (s->state != TAG_ARBITRATE && s->slot);
 }
 
-static int same_session(const struct tag_session *a, const struct tag_session *b) {
-    return a->state == b->state && a->held == b->held && a->unwritten == b->unwritten && a->killed == b->killed && a->covered == b->covered &&
-           a->half == b->half && a->round == b->round && a->q == b->q && a->s0 == b->s0 && a->s1 == b->s1 && a->s2 == b->s2 && a->s3 == b->s3 &&
-           a->sl == b->sl && a->number == b->number && a->cover == b->cover && a->upper == b->upper && a->slot == b->slot;
-}
+/* it has no padding */
+static int same_session(const struct tag_session *a, const struct tag_session *b) { return !memcmp(a, b, sizeof *a); }
 
 /* ---- frames of every kind ---- */
 

@@ -283,9 +283,6 @@ static void reply_bare(uint8_t *o, bytes p, size_t n) {
 
 /* ---- inventory ---- */
 
-/* the inventoried flag of a session, 0 to 3, or SL, 4 */
-static inline uint8_t *flag(struct tag_session *s, unsigned i) { return (uint8_t *)s + offsetof(struct tag_session, s0) + i; }
-
 /* no number, cover or half */
 static inline void unlink_session(struct tag_session *s) {
     s->covered = s->half = 0;
@@ -319,7 +316,7 @@ static inline int to_reply(struct tag_session *s, unsigned fresh, uint8_t *room,
 
 /* the tag is counted: the flag of the round's session turns */
 static inline int end_round(struct tag_session *s) {
-    *flag(s, s->round) ^= 1;
+    s->flags ^= (uint8_t)(1u << s->round);
     to_ready(s);
     return 0;
 }
@@ -355,15 +352,15 @@ INLINED int query(struct tag_session *s, bytes f, unsigned fresh, uint8_t *room,
     if (crc5_wrong(f)) return 8;
     if (s->state == TAG_KILLED) return 9;
     unsigned session = f[1] >> 4 & 3, sel = f[1] >> 6, target = f[1] >> 3 & 1, q = (f[1] & 7u) << 1 | f[2] >> 7;
-    unsigned turned = s->state >= TAG_ACKNOWLEDGED && s->round == session, now = *flag(s, session) ^ turned;
-    if (now != target || (sel >= 2 && (sel & 1) != s->sl)) {
-        *flag(s, session) = (uint8_t)now;
+    unsigned turned = s->state >= TAG_ACKNOWLEDGED && s->round == session, flags = s->flags ^ turned << session;
+    if ((flags >> session & 1) != target || (sel >= 2 && (sel & 1) != flags >> 4)) {
+        s->flags = (uint8_t)flags;
         to_ready(s);
         return 0;
     }
     unsigned slot = fresh & ((1u << q) - 1);
     if (!slot && rn < 2) return 4;
-    *flag(s, session) = (uint8_t)now;
+    s->flags = (uint8_t)flags;
     s->round = (uint8_t)session;
     s->q = (uint8_t)q;
     if (!slot) return to_reply(s, fresh, room, out);
@@ -408,9 +405,8 @@ static inline int selection(struct tag_session *s, bytes m, bytes f, size_t n) {
     if (s->state == TAG_KILLED || target > 4 || !bank || field(f, n - 17, 1)) return 9;
     unsigned at = word(m, 4 + 2 * bank), words = word(m, 5 + 2 * bank);
     int match = from + length + !length <= 16 * (size_t)words && same_bits(f, mask, m + 2 * at, from, length);
-    unsigned effect = EFFECTS >> (16 * match + 2 * action) & 3;
-    uint8_t *it = flag(s, target);
-    *it = (uint8_t)((effect & 2 ? *it : target == 4) ^ (effect & 1));
+    unsigned effect = EFFECTS >> (16 * match + 2 * action) & 3, it = 1u << target;
+    s->flags = (uint8_t)((effect & 2 ? s->flags : (s->flags & ~it) | (it & TAG_FLAG_SL)) ^ (effect & 1) << target);
     to_ready(s);
     return 0;
 }
@@ -735,8 +731,8 @@ int NAME(register)(struct tag_session *s, struct rival_out *out) {
     out->reply = out->stores = out->value = 0;
     if (s->state == TAG_OFF) return 5;
     if (!s->held) return 6;
-    out->value = 2u * s->unwritten + s->killed;
-    s->unwritten = s->killed = 0;
+    out->value = s->reg;
+    s->reg = 0;
     return 0;
 }
 
@@ -749,7 +745,7 @@ int NAME(read)(struct tag_session *s, bytes m, size_t mn, size_t at, size_t coun
     if (rn < 2 * count) return 4;
     if (s->state == TAG_KILLED) {
         memset(room, 0, 2 * count);
-        s->killed = 1;
+        s->reg |= 1;
     } else {
         memcpy(room, m + 2 * (y.user + at), 2 * count);
     }
@@ -765,11 +761,11 @@ int NAME(write)(struct tag_session *s, uint8_t *m, size_t mn, size_t at, bytes w
     size_t count = wn / 2;
     if (wn % 2 || count - 1 > 254 || at > y.user_words || at + count > y.user_words || count > y.pairs) return 13;
     if (s->state == TAG_KILLED) {
-        s->killed = 1;
+        s->reg |= 1;
         return 0;
     }
     if (word(m, y.reserved + 2) | word(m, y.reserved + 3) | (word(m, 16) & 2)) {
-        s->unwritten = 1;
+        s->reg |= 2;
         return 0;
     }
     uint8_t mask[255] = {0};
@@ -791,6 +787,6 @@ int NAME(write)(struct tag_session *s, uint8_t *m, size_t mn, size_t at, bytes w
         }
         out->stores = 3 * (size_t)writable + 2;
     }
-    if (writable != count) s->unwritten = 1;
+    if (writable != count) s->reg |= 2;
     return 0;
 }

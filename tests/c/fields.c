@@ -62,51 +62,48 @@ static void sheet(void) {
 static void same(const char *what, struct tag_session a, struct tag_session b) {
     is(what, a.state, b.state);
     is(what, a.held, b.held);
-    is(what, a.unwritten, b.unwritten);
-    is(what, a.killed, b.killed);
+    is(what, a.reg, b.reg);
     is(what, a.covered, b.covered);
     is(what, a.half, b.half);
     is(what, a.round, b.round);
     is(what, a.q, b.q);
-    is(what, a.s0, b.s0);
-    is(what, a.s1, b.s1);
-    is(what, a.s2, b.s2);
-    is(what, a.s3, b.s3);
-    is(what, a.sl, b.sl);
+    is(what, a.flags, b.flags);
     is(what, a.number, b.number);
     is(what, a.cover, b.cover);
     is(what, a.upper, b.upper);
     is(what, a.slot, b.slot);
 }
 
-/* a release that is refused hands the record back: each truth value alone, then all numbers at once */
+/* a release that is refused hands the record back: every number at once, then every register and every set of flags */
 static void session(void) {
     static const struct tag_session off;
-    struct tag_session full = {.state = TAG_SECURED, .unwritten = 1, .covered = 1, .half = TAG_KILL_HALF, .round = 2, .q = 13,
+    struct tag_session full = {.state = TAG_SECURED, .reg = 3, .covered = 1, .half = TAG_KILL_HALF, .round = 5, .q = 13, .flags = 21,
                                .number = 0x1234, .cover = 0x5678, .upper = 0x9ABC};
     struct tag_outcome o = tag_release(full);
     is("release.answer", o.answer, 6);
     same("session back", o.session, full);
-    full.unwritten = 0;
-    full.killed = 1;
+    full.reg = 1;
     same("session back, killed", tag_release(full).session, full);
     full.half = TAG_ACCESS_HALF;
     same("session back, access", tag_release(full).session, full);
     full.number = 0;
     same("session back, handle 0", tag_release(full).session, full);
-    for (int i = 0; i < 5; i++) {
-        static const char *const names[] = {"session back, S0", "session back, S1", "session back, S2", "session back, S3", "session back, SL"};
-        struct tag_session one = {.state = TAG_READY, .s0 = i == 0, .s1 = i == 1, .s2 = i == 2, .s3 = i == 3, .sl = i == 4};
-        same(names[i], tag_release(one).session, one);
+    for (unsigned i = 0; i < 32; i++) {
+        struct tag_session one = {.state = TAG_READY, .flags = (uint8_t)i};
+        same("session back, flags", tag_release(one).session, one);
+    }
+    for (unsigned i = 0; i < 4; i++) {
+        struct tag_session one = {.state = TAG_KILLED, .reg = (uint8_t)i};
+        same("session back, register", tag_release(one).session, one);
+        one.held = 1;
+        struct tag_outcome r = tag_register(one);
+        is("register.value", r.value, i);
+        one.reg = 0;
+        same("register read", r.session, one);
     }
     struct tag_session waiting = {.state = TAG_ARBITRATE, .round = 3, .q = 11, .slot = 0x6789};
     same("session back, slot", tag_release(waiting).session, waiting);
-    struct tag_session held = {.state = TAG_KILLED, .held = 1, .unwritten = 1};
-    o = tag_register(held);
-    is("register.value, unwritten", o.value, 2);
-    held.unwritten = 0;
-    held.killed = 1;
-    is("register.value, killed", tag_register(held).value, 1);
+    struct tag_session held = {.state = TAG_KILLED, .held = 1, .reg = 1};
     is("ask while held", tag_ask(held).answer, 6);
     held.held = 0;
     is("ask while free", tag_ask(held).session.held, 1);
@@ -127,16 +124,20 @@ static void stray(const char *what, struct tag_session s) {
 static void strays(void) {
     stray("unknown state", (struct tag_session){.state = 8});
     stray("stray held", (struct tag_session){.held = 1});
-    stray("stray SL", (struct tag_session){.sl = 1});
+    stray("stray register", (struct tag_session){.reg = 1});
+    stray("stray S0", (struct tag_session){.flags = TAG_FLAG_S0});
+    stray("stray SL", (struct tag_session){.flags = TAG_FLAG_SL});
     stray("stray round", (struct tag_session){.state = TAG_READY, .round = 1});
     stray("stray Q", (struct tag_session){.state = TAG_READY, .q = 1});
     stray("stray slot", (struct tag_session){.state = TAG_REPLY, .slot = 1});
     stray("stray number", (struct tag_session){.state = TAG_ARBITRATE, .number = 1});
-    stray("S0 of 2", (struct tag_session){.state = TAG_READY, .s0 = 2});
-    stray("S1 of 2", (struct tag_session){.state = TAG_READY, .s1 = 2});
-    stray("S2 of 2", (struct tag_session){.state = TAG_READY, .s2 = 2});
-    stray("S3 of 2", (struct tag_session){.state = TAG_READY, .s3 = 2});
-    stray("SL of 2", (struct tag_session){.state = TAG_READY, .sl = 2});
+    stray("cover in Acknowledged", (struct tag_session){.state = TAG_ACKNOWLEDGED, .covered = 1});
+    stray("half in Reply", (struct tag_session){.state = TAG_REPLY, .half = TAG_ACCESS_HALF});
+    stray("held of 2", (struct tag_session){.state = TAG_READY, .held = 2});
+    stray("covered of 2", (struct tag_session){.state = TAG_OPEN, .covered = 2});
+    stray("half of 3", (struct tag_session){.state = TAG_OPEN, .half = 3});
+    for (unsigned i = 4; i < 256; i++) stray("register above 3", (struct tag_session){.state = TAG_READY, .reg = (uint8_t)i});
+    for (unsigned i = 32; i < 256; i++) stray("flags above 31", (struct tag_session){.state = TAG_READY, .flags = (uint8_t)i});
 }
 
 /* the inventory's fields: Select turns SL, Query draws round and slot, QueryAdjust and QueryRep move Q and slot, ACK tells the EPC */
@@ -146,13 +147,12 @@ static void inventory(void) {
     static const uint8_t adjust[] = {0x9B, 0x00};                                     /* S2, Q one more */
     static const uint8_t rep[] = {0x20};                                              /* S2 */
     static const uint8_t ack[] = {0x70, 0x00, 0x00};                                  /* C000h */
-    struct tag_session ready = {.state = TAG_READY, .s1 = 1};
+    struct tag_session ready = {.state = TAG_READY, .flags = TAG_FLAG_S1};
     uint8_t room[12];
     memset(room, 0xEE, sizeof room);
     struct tag_outcome o = tag_frame(ready, image, sizeof image, 61, select, 8, 0, room, 0, 0);
     is("select.answer", o.answer, 0);
-    is("select.sl", o.session.sl, 1);
-    is("select.s1", o.session.s1, 1);
+    is("select.flags", o.session.flags, TAG_FLAG_S1 | TAG_FLAG_SL);
     o = tag_frame(o.session, image, sizeof image, 22, query, 3, 0x5ABC, room, 0, 0);
     is("query.answer", o.answer, 0);
     is("query.state", o.session.state, TAG_ARBITRATE);
@@ -177,7 +177,7 @@ static void inventory(void) {
     is("ack.q", o.session.q, 14);
     is("ack: the room", get(room, 0) * 65536 + get(room, 3), 0x1000EB6B);
     o = tag_frame(o.session, image, sizeof image, 4, rep, 1, 0, room, 0, 0);
-    ready.s2 = ready.sl = 1;
+    ready.flags |= TAG_FLAG_S2 | TAG_FLAG_SL;
     same("rep ends the round", o.session, ready);
 }
 

@@ -1,4 +1,3 @@
-pub mod Records
 pub mod Told
 pub mod Steps
 pub mod Laws

@@ -4,42 +4,18 @@ use mathlib.Core.List.{List}
 use Rattle.image.specs.declared.Section.{Section}
 use Rattle.image.specs.declared.Layout.{Layout}
 use Rattle.image.specs.Check.{Checked, refused, good}
-use Rattle.tag.specs.declared.Outcome as outcome
-use Rattle.tag.specs.Session.{numberOf}
-use Rattle.tag.specs.Result.{Left, Result}
-use Rattle.capi.specs.declared.Record.{Record}
+use Rattle.states.specs.declared.Numbers.{Numbers}
+use Rattle.states.specs.Numbers.{numbersIn}
+use Rattle.tag.specs.Result.{Left}
 use Rattle.capi.specs.declared.Told.{Told}
 use Rattle.capi.specs.declared.Place.{Place}
 use Rattle.capi.specs.declared.Sheet.{Sheet}
-use Rattle.capi.specs.Records.{recordOf}
 
--- what an exported call left
-abbrev pub told : Told → List ℕ → List ℕ → Left Record
+-- what an exported call left, its session by its numbers
+abbrev pub told : Told → List ℕ → List ℕ → Left Numbers
 told o image room =
-    record { number = o .answer; session = o .session; reply = o .reply; stores = o .stores; value = o .value; image = image; room = room }
-
--- what the core's promise asks for, with its session written
-abbrev pub toldOf : Result → Left Record
-toldOf r =
-    record {
-      number = r .number;
-      session = recordOf (r .session .power);
-      reply = r .reply;
-      stores = r .stores;
-      value = r .value;
-      image = r .image;
-      room = r .room;
-    }
-
-abbrev pub outcomeOf : outcome.Outcome → Told
-outcomeOf o =
-    record {
-      answer = numberOf (o .answer);
-      value = o .value;
-      session = recordOf (o .session .power);
-      reply = o .reply;
-      stores = o .stores;
-    }
+    let v = numbersIn (o .session) in
+    record { number = o .answer; session = v; reply = o .reply; stores = o .stores; value = o .value; image = image; room = room }
 
 abbrev pub placeFrom : Section → Place
 placeFrom s = record { at = s .at; words = s .words }

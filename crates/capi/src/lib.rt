@@ -5,35 +5,16 @@ ghost use Rattle.image.specs.Check.{checkOf};
 ghost use Rattle.tag.specs.Power.{powerUpOf};
 ghost use Rattle.tag.specs.Table.{frameOf};
 ghost use Rattle.tag.specs.Port.{askOf, releaseOf, registerOf, readOf, writeOf};
-ghost use Rattle.capi.specs.Records.{sessionOf};
-ghost use Rattle.capi.specs.Told.{told, toldOf, sheetOf};
+ghost use Rattle.states.specs.Numbers.{numbersIn};
+ghost use Rattle.tag.specs.Records.{sessionOf, inNumbers};
+ghost use Rattle.capi.specs.Told.{told, sheetOf};
 ghost use Rattle.tag.specs.Result.{firstOf};
 ghost use Rattle.stores.specs.Stores.{changeStores};
 
 mod records;
 mod sheets;
 
-// A session: its state, what that state holds, and the flags. A number where none belongs is 0.
-#[repr(C)]
-pub struct Record {
-    pub state: u8,
-    pub held: u8,
-    pub unwritten: u8,
-    pub killed: u8,
-    pub covered: u8,
-    pub half: u8,
-    pub round: u8,
-    pub q: u8,
-    pub s0: u8,
-    pub s1: u8,
-    pub s2: u8,
-    pub s3: u8,
-    pub sl: u8,
-    pub number: u16,
-    pub cover: u16,
-    pub upper: u16,
-    pub slot: u16,
-}
+pub use states::Record;
 
 // An outcome: the answer's number, the new session, the reply's length in bits, the stores made, and the register where it was read.
 #[repr(C)]
@@ -77,7 +58,7 @@ pub extern "C" fn tag_check(image: &[u8]) -> Sheet
 // Power-up, with power for s stores.
 #[no_mangle]
 pub extern "C" fn tag_power_up(image: &mut [u8], s: usize) -> Told
-    ensures { λ r. ⌜ told r (now (image .exit)) [] ≡ toldOf (firstOf (powerUpOf (now (image .entry)) s)) ⌝ }
+    ensures { λ r. ⌜ told r (now (image .exit)) [] ≡ inNumbers (firstOf (powerUpOf (now (image .entry)) s)) ⌝ }
 {
     records::outcome(tag::power_up(image, s))
 }
@@ -93,33 +74,33 @@ pub extern "C" fn tag_frame(
     room: &mut [u8],
     s: usize,
 ) -> Told
-    ensures { λ r. ⌜ told r (now (image .exit)) (now (room .exit)) ≡ toldOf (firstOf (frameOf changeStores (record { session = (sessionOf session); image = now (image .entry); frame = now (frame .entry); bits = n; fresh = fresh; room = now (room .entry); power = s }))) ⌝ }
+    ensures { λ r. ⌜ told r (now (image .exit)) (now (room .exit)) ≡ inNumbers (firstOf (frameOf changeStores (record { session = sessionOf (numbersIn session); image = now (image .entry); frame = now (frame .entry); bits = n; fresh = fresh; room = now (room .entry); power = s }))) ⌝ }
 {
-    records::outcome(records::session(session).frame(image, frame, n, fresh, room, s))
+    records::frame_told(tag::frame(session, image, frame, n, fresh, room, s))
 }
 
 // Asks for the port.
 #[no_mangle]
 pub extern "C" fn tag_ask(session: Record) -> Told
-    ensures { λ r. ⌜ told r [] [] ≡ toldOf (firstOf (askOf (sessionOf session))) ⌝ }
+    ensures { λ r. ⌜ told r [] [] ≡ inNumbers (firstOf (askOf (sessionOf (numbersIn session)))) ⌝ }
 {
-    records::outcome(records::session(session).ask())
+    records::outcome(tag::session_of(session).ask())
 }
 
 // Gives the port back.
 #[no_mangle]
 pub extern "C" fn tag_release(session: Record) -> Told
-    ensures { λ r. ⌜ told r [] [] ≡ toldOf (firstOf (releaseOf (sessionOf session))) ⌝ }
+    ensures { λ r. ⌜ told r [] [] ≡ inNumbers (firstOf (releaseOf (sessionOf (numbersIn session)))) ⌝ }
 {
-    records::outcome(records::session(session).release())
+    records::outcome(tag::session_of(session).release())
 }
 
 // Reads the register, which clears it.
 #[no_mangle]
 pub extern "C" fn tag_register(session: Record) -> Told
-    ensures { λ r. ⌜ told r [] [] ≡ toldOf (firstOf (registerOf (sessionOf session))) ⌝ }
+    ensures { λ r. ⌜ told r [] [] ≡ inNumbers (firstOf (registerOf (sessionOf (numbersIn session)))) ⌝ }
 {
-    records::outcome(records::session(session).register())
+    records::outcome(tag::session_of(session).register())
 }
 
 // Reads count words of USER from word `at` on into the room.
@@ -131,10 +112,10 @@ pub extern "C" fn tag_read(
     count: usize,
     room: &mut [u8],
 ) -> Told
-    ensures { λ r. ⌜ told r (now (image .entry)) (now (room .exit)) ≡ toldOf (firstOf (readOf (sessionOf session) (now (image .entry)) at count (now (room .entry)))) ⌝ }
+    ensures { λ r. ⌜ told r (now (image .entry)) (now (room .exit)) ≡ inNumbers (firstOf (readOf (sessionOf (numbersIn session)) (now (image .entry)) at count (now (room .entry)))) ⌝ }
 {
     let h = records::held_row(session);
-    let dead = session.state == 7;
+    let dead = session.low % 0x100 == 7;
     let row = tag::read_words(h, dead, image, at, count, room);
     if row != 0 {
         return records::told(row, records::own(session, h), 0);
@@ -154,7 +135,7 @@ pub extern "C" fn tag_write(
     words: &[u8],
     s: usize,
 ) -> Told
-    ensures { λ r. ⌜ told r (now (image .exit)) [] ≡ toldOf (firstOf (writeOf changeStores (sessionOf session) (now (image .entry)) at (now (words .entry)) s)) ⌝ }
+    ensures { λ r. ⌜ told r (now (image .exit)) [] ≡ inNumbers (firstOf (writeOf changeStores (sessionOf (numbersIn session)) (now (image .entry)) at (now (words .entry)) s)) ⌝ }
 {
-    records::outcome(records::session(session).write(image, at, words, s))
+    records::outcome(tag::session_of(session).write(image, at, words, s))
 }

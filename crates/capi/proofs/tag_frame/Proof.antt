@@ -1,14 +1,12 @@
--- `capi::tag_frame` meets its contract: the core's own, through the record. Assumes nothing.
-use mathlib.Core.Path.{ap}
-use Rattle.capi.specs.Told.{toldOf}
+-- `capi::tag_frame` meets its contract: the core's own, by the record. Assumes nothing.
+use mathlib.Core.Path.{_∙_}
 use borrow.Author.Needs.{needs}
 use Rattle.capi.proofs.tag_frame.Statement.{statement}
 use Rattle.capi.proofs.tag_frame.Tie as tie
 
 returns : tie.Need-returns
-returns c = rw (c .outcome .ensures, ← c .before .before .before .before .before .before .before .before .session .ensures) (ap toldOf (c .before .before .before .before .before .frame .ensures))
+returns c = c .frame-told .ensures _ _ ∙ c .before .before .before .before .before .frame .ensures
 
 pub tag-frame-spec : {M : Type 1} → statement M
-tag-frame-spec =
-    tie.close
-    (tie.spec (search needs) (search needs) (search needs) (search needs) (search needs) returns)
+tag-frame-spec = tie.close
+    (tie.spec (search needs) (search needs) (search needs) (search needs) returns)

@@ -1,12 +1,16 @@
 -- `capi::tag_release` meets its contract: the core's own, through the record. Assumes nothing.
-use mathlib.Core.Path.{ap}
-use Rattle.capi.specs.Told.{toldOf}
+use mathlib.Core.Path.{ap, _∙_}
+use mathlib.Core.List.{[]}
+use Rattle.tag.specs.declared.Session.{Session}
+use Rattle.tag.specs.Port.{releaseOf}
+use Rattle.tag.specs.Records.{inNumbers}
+use Rattle.tag.specs.Result.{firstOf}
 use borrow.Author.Needs.{needs}
 use Rattle.capi.proofs.tag_release.Statement.{statement}
 use Rattle.capi.proofs.tag_release.Tie as tie
 
 returns : tie.Need-returns
-returns c = rw (c .outcome .ensures, ← c .before .before .session .ensures) (ap toldOf (c .before .release .ensures))
+returns c = c .outcome .ensures [] [] ∙ ap inNumbers (c .before .release .ensures) ∙ ap (λ (s : Session). inNumbers (firstOf (releaseOf s))) (c .before .before .session-of .ensures)
 
 pub tag-release-spec : {M : Type 1} → statement M
 tag-release-spec = tie.close
