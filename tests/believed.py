@@ -1,6 +1,7 @@
 #!/usr/bin/env python3
-"""Counts what a reader must believe of the core: the lines of the definitions in specs/ that the promises of `image` and `tag` reach,
-without comments, imports and empty lines. Writes a line for each file, then the sum; names what a file has that no promise reaches."""
+"""Counts what a reader must believe of the core: the lines of the definitions in specs/ that the promises of `image`, of `tag::power_up` and of
+the methods of `tag::Session` reach, without comments, imports and empty lines; then what those of `capi` reach besides, the record of C.
+Writes a line for each file, then the sum of each part; names what a file has that no promise reaches."""
 import os
 import re
 
@@ -17,6 +18,8 @@ PROMISED = {
     "tag/Port": "askOf releaseOf registerOf readOf writeOf",
     "tag/Power": "powerUpOf",
 }
+C_FILES = "states/Numbers tag/Records capi/Told".split()
+C_PROMISED = {"states/Numbers": "numbersIn", "tag/Records": "sessionOf inNumbers", "capi/Told": "told sheetOf"}
 BEGINS = re.compile(r"(?:abbrev |unfoldable )?pub (?:record |data )?([A-Za-z][\w′-]*)(?: \(.*\))? : ")
 CASE = re.compile(r"\s+([A-Za-z]\w*) :")
 NAME = re.compile(r"(?:\b(\w+)\.)?([A-Za-z][\w′-]*)")
@@ -55,10 +58,8 @@ def read(file):
     return defined, owner, named, folders
 
 
-def main():
-    known = {file: read(file) for file in FILES}
-    todo = [(file, name) for file, names in PROMISED.items() for name in names.split()]
-    todo += [(file, "module") for file in FILES if "module" in known[file][0]]
+def reach(known, todo):
+    """What the names of todo lead to, as pairs of a file and a name."""
     seen = set()
     while todo:
         file, name = todo.pop()
@@ -77,14 +78,24 @@ def main():
                     todo.append((file, word))
                 elif word in named:
                     todo.append(named[word])
+    return seen
+
+
+def count(files, promised, what):
+    """Prints the lines of the files that the promised names reach, and their sum."""
+    known = {file: read(file) for file in files}
+    todo = [(file, name) for file, names in promised.items() for name in names.split()]
+    todo += [(file, "module") for file in files if "module" in known[file][0]]
+    seen = reach(known, todo)
     total = 0
-    for file in FILES:
+    for file in files:
         defined = known[file][0]
         reached = sum(len(body) for name, body in defined.items() if (file, name) in seen)
         others = " ".join(name for name in defined if (file, name) not in seen)
         total += reached
         print(f"{reached:4}  {file}" + (f"  (not reached: {others})" if others else ""))
-    print(f"{total:4}  lines to believe")
+    print(f"{total:4}  lines to believe {what}")
 
 
-main()
+count(FILES, PROMISED, "of the core")
+count(C_FILES, C_PROMISED, "of C's record besides")
