@@ -286,13 +286,16 @@ fn no_state(v: Numbers) -> bool
     either(v.state == 0, 7 < v.state)
 }
 
-// Port, register, cover or flags past their bits.
-fn too_large(v: Numbers) -> bool
-    ensures { λ b. ⌜ b ≡ tooLarge v ⌝ }
+// Port, register, cover or flags past their bits, which are asked of the whole number at once.
+fn too_large(r: Record) -> bool
+    ensures { λ b. ⌜ b ≡ tooLarge (numbersIn r) ⌝ }
 {
     either(
-        either(1 < v.held, 3 < v.reg),
-        either(1 < v.covered, 31 < v.flags),
+        either(r.low / 0x200 % 0x80 != 0, r.low / 0x4_0000 % 0x40 != 0),
+        either(
+            r.low / 0x200_0000 % 0x80 != 0,
+            r.low / 0x2000_0000_0000_0000 != 0,
+        ),
     )
 }
 
@@ -317,7 +320,7 @@ pub fn fits(r: Record) -> bool
     if no_state(v) {
         return false;
     }
-    if too_large(v) {
+    if too_large(r) {
         return false;
     }
     state_fits(r, v)

@@ -18,16 +18,16 @@ module _ (r : Record) (v : Numbers) (is : v ≡ numbersIn r) where
       first : (a b c : Bool) → a ≡ true → false ≡ (not a && b && c)
       first a b c e = rw e
 
-  large : false ≡ noState v → true ≡ tooLarge v → false ≡ fitsOf r
+  large : false ≡ noState v → true ≡ tooLarge (numbersIn r) → false ≡ fitsOf r
   unfolding fitsOf
-  large e f = second (noState (numbersIn r)) (tooLarge (numbersIn r)) (stateFits r (numbersIn r)) (sym (e ∙ ap noState is)) (sym (f ∙ ap tooLarge is))
+  large e f = second (noState (numbersIn r)) (tooLarge (numbersIn r)) (stateFits r (numbersIn r)) (sym (e ∙ ap noState is)) (sym f)
     where
       second : (a b c : Bool) → a ≡ false → b ≡ true → false ≡ (not a && not b && c)
       second a b c e f = rw (e, f)
 
-  left : false ≡ noState v → false ≡ tooLarge v → stateFits r v ≡ fitsOf r
+  left : false ≡ noState v → false ≡ tooLarge (numbersIn r) → stateFits r v ≡ fitsOf r
   unfolding fitsOf
-  left e f = ap (stateFits r) is ∙ third (noState (numbersIn r)) (tooLarge (numbersIn r)) (stateFits r (numbersIn r)) (sym (e ∙ ap noState is)) (sym (f ∙ ap tooLarge is))
+  left e f = ap (stateFits r) is ∙ third (noState (numbersIn r)) (tooLarge (numbersIn r)) (stateFits r (numbersIn r)) (sym (e ∙ ap noState is)) (sym f)
     where
       third : (a b c : Bool) → a ≡ false → b ≡ false → c ≡ (not a && not b && c)
       third a b c e f = rw (e, f)
