@@ -1,7 +1,8 @@
--- A record's parts are what was packed. Assumes nothing.
+-- A record's parts are what was packed, and no two records have the same. Assumes nothing.
 use Prim.Native.Nat.{ℕ, _+_, _*_, _/_, _%_, _^_, _<_}
-use mathlib.Core.Path.{_≡_, ap, _∙_}
+use mathlib.Core.Path.{_≡_, sym, ap, _∙_}
 use native.Mathlib.Omega.{arith}
+use Rattle.states.specs.declared.Record.{Record}
 use Rattle.states.specs.declared.Numbers.{Numbers}
 use Rattle.states.specs.Numbers.{numbersIn}
 use Rattle.states.specs.Steps.{fourOf}
@@ -167,3 +168,46 @@ module _ (v : Numbers) (x y : ℕ) (ex : x ≡ fourOf (v .state) (v .held) (v .r
       (fifth _ _ _ _ _ _ _ _ state held reg covered half round q _ low) (sixth _ _ _ _ _ _ _ _ state held reg covered half round q _ low)
       (seventh _ _ _ _ _ _ _ _ state held reg covered half round q _ low) (eighth _ _ _ _ _ _ _ _ state held reg covered half round q _ low)
       (first16 _ _ _ (v .slot) number cover upper) (second16 _ _ _ (v .slot) number cover upper) (third16 _ _ _ (v .slot) number cover upper) (fourth16 _ _ _ (v .slot) number cover upper)
+
+-- a number is told by its lowest part and what stands above it
+by8 : (n : ℕ) → n ≡ n % 256 + 256 * (n / 256)
+by8 n = omega arith
+
+by16 : (n : ℕ) → n ≡ n % 65536 + 65536 * (n / 65536)
+by16 n = omega arith
+
+module _ (a b : ℕ) where
+  from8 : a % 256 ≡ b % 256 → a / 256 ≡ b / 256 → a ≡ b
+  from8 p q = by8 a ∙ (λ i. p i + 256 * q i) ∙ sym (by8 b)
+
+  from16 : a % 65536 ≡ b % 65536 → a / 65536 ≡ b / 65536 → a ≡ b
+  from16 p q = by16 a ∙ (λ i. p i + 65536 * q i) ∙ sym (by16 b)
+
+-- a record is told by its numbers, so that no two records stand for the same
+module _ (a b : Record) (e : numbersIn a ≡ numbersIn b) where
+  x : ℕ
+  x = a .low
+
+  y : ℕ
+  y = b .low
+
+  low-same : x ≡ y
+  unfolding x y
+  low-same =
+      let seventh = from8 (x / 2 ^ 48) (y / 2 ^ 48) (ap (λ (v : Numbers). v .q) e) (sym (down7 x) ∙ ap (λ (v : Numbers). v .flags) e ∙ down7 y) in
+      let sixth = from8 (x / 2 ^ 40) (y / 2 ^ 40) (ap (λ (v : Numbers). v .round) e) (sym (down6 x) ∙ seventh ∙ down6 y) in
+      let fifth = from8 (x / 2 ^ 32) (y / 2 ^ 32) (ap (λ (v : Numbers). v .half) e) (sym (down5 x) ∙ sixth ∙ down5 y) in
+      let fourth = from8 (x / 2 ^ 24) (y / 2 ^ 24) (ap (λ (v : Numbers). v .covered) e) (sym (down4 x) ∙ fifth ∙ down4 y) in
+      let third = from8 (x / 2 ^ 16) (y / 2 ^ 16) (ap (λ (v : Numbers). v .reg) e) (sym (down3 x) ∙ fourth ∙ down3 y) in
+      let second = from8 (x / 2 ^ 8) (y / 2 ^ 8) (ap (λ (v : Numbers). v .held) e) (sym (down2 x) ∙ third ∙ down2 y) in
+      from8 x y (ap (λ (v : Numbers). v .state) e) second
+
+  high-same : a .high ≡ b .high
+  high-same =
+      let third = from16 (a .high / 2 ^ 32) (b .high / 2 ^ 32) (ap (λ (v : Numbers). v .upper) e) (sym (by-words3 (a .high)) ∙ ap (λ (v : Numbers). v .slot) e ∙ by-words3 (b .high)) in
+      let second = from16 (a .high / 2 ^ 16) (b .high / 2 ^ 16) (ap (λ (v : Numbers). v .cover) e) (sym (by-words2 (a .high)) ∙ third ∙ by-words2 (b .high)) in
+      from16 (a .high) (b .high) (ap (λ (v : Numbers). v .number) e) second
+
+  pub one-record : a ≡ b
+  unfolding x y
+  one-record = λ i. record { low = low-same i; high = high-same i }
