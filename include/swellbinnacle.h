@@ -26,9 +26,11 @@
         flag or no bank or with a set truncate bit                      everything stays
      10 an error reply was given                                        the image stays; the cover number is used up
      11 the power was lost                                              the first stores were made; Off; no reply
-     12 password wrong or halves broken                                 the image and the flags stay; Arbitrate; no reply
+     12 password wrong: its two halves do not make it                   the image and the flags stay; Arbitrate; no reply
      13 SPI count 0 or over 255, odd data, past USER's end, or a write of more words than a change may have
-                                                                        everything stays */
+                                                                        everything stays
+     14 halves broken: another command to this tag than Req_RN or NAK came between them
+                                                                        the image and the flags stay; Arbitrate; no reply */
 #ifndef SWELLBINNACLE_H
 #define SWELLBINNACLE_H
 
@@ -66,7 +68,7 @@ struct tag_session {
 
 /* What a call hands back. Padding is not set: compare fields, not bytes. */
 struct tag_outcome {
-    uint8_t answer;             /* 0 to 13 */
+    uint8_t answer;             /* 0 to 14 */
     struct tag_session session; /* the session from now on */
     size_t reply;               /* the reply's bits in the room, the first bit highest; 0: no reply */
     size_t stores;              /* the word stores made */
@@ -101,8 +103,8 @@ struct tag_outcome tag_power_up(uint8_t *image, size_t image_bytes, size_t store
 
 /* A radio frame of `bits` bits, the first bit highest. The shortest has 4 (QueryRep); spare bits of the last byte mean nothing. `fresh` is a
    random word, new for each call: the slot is drawn from its low bits, and it is the number replied, the handle or the cover number. The reply
-   goes to the room; the power lasts `stores` word stores. Answers 0 to 12. A Read of n words has a reply of 33 + 16 * n bits: 8,197 bytes hold
-   any reply. */
+   goes to the room; the power lasts `stores` word stores. Answers 0 to 12 and 14. A Read of n words has a reply of 33 + 16 * n bits: 8,197
+   bytes hold any reply. */
 struct tag_outcome tag_frame(struct tag_session session, uint8_t *image, size_t image_bytes, size_t bits, const uint8_t *frame,
                              size_t frame_bytes, uint16_t fresh, uint8_t *room, size_t room_bytes, size_t stores);
 

@@ -167,7 +167,7 @@ frame-in t f bits fresh room s h =
     let i = input (t .session) (t .image) f bits fresh room s in
     let l = live-in (t .session .power) h in
     first-each Comes (frameOf changeStores i .rows) (frameOf changeStores i .done)
-    (λ e. h, (λ e. h, (λ e. h, (λ e. h, (λ e. h, (λ e. h, (λ e. h, (λ e. h, (λ e. fallen-in (liveOf (t .session .power) .state) l, (λ e. used-in (liveOf (t .session .power) .state) l, (λ e. h, (λ e. tt, tt)))))))))))) (go (heardOf f bits) refl l)
+    (λ e. h, (λ e. h, (λ e. h, (λ e. h, (λ e. h, (λ e. h, (λ e. h, (λ e. h, (λ e. fallen-in (liveOf (t .session .power) .state) l, (λ e. fallen-in (liveOf (t .session .power) .state) l, (λ e. used-in (liveOf (t .session .power) .state) l, (λ e. h, (λ e. tt, tt))))))))))))) (go (heardOf f bits) refl l)
   where
     go : (x : Message) → heardOf f bits ≡ x → Reachable (liveOf (t .session .power) .state)
         → Reachable (effectOf (scene (input (t .session) (t .image) f bits fresh room s)) (commandIn x .order) .state)

@@ -45,14 +45,14 @@ use Rattle.states.specs.declared.State.the-variants as state
 use Rattle.tag.specs.declared.Session.{Session}
 use Rattle.tag.specs.Result.{Result, leaves, lost, firstOf}
 use Rattle.tag.specs.Steps.{gives, input}
-use Rattle.states.specs.Commands.{asksOf, linkOf, isCovered, isKilled, breaks, accessWord, isLinked, fallen}
+use Rattle.states.specs.Commands.{asksOf, linkOf, isCovered, isKilled, halvesRow, halvesOf, accessWord, isLinked, fallen}
 use Rattle.states.specs.Inventory.{drawn, slotFrom, inverted, queried, leftFlags, adjusted, repeated, acknowledged, selects, selectedFlags}
 use Rattle.states.specs.Steps.{wrongCommand}
 use Rattle.states.specs.Commands as wide
 use Rattle.states.specs.declared.Who.{Who}
 use Rattle.states.specs.declared.Who.the-variants as who
 use Rattle.plans.specs.Effects.{Effect, turns, drawnReply, effectOf}
-use Rattle.tag.specs.Table.{Input, refusedBy, commandIn, scene, effect, isError, replyOr, replyOf, fits, frameOf}
+use Rattle.tag.specs.Table.{Input, refusedBy, commandIn, halves, scene, effect, isError, replyOr, replyOf, fits, frameOf}
 use Rattle.demands.specs.Facts.{marked, Slotted, Singled, Numbered, FirstStep, Matches, Adjusts, CountsDown, Selected, Takeable}
 use Rattle.demands.specs.Facts as facts
 use Rattle.demands.proofs.Rights.{marked-words, marked-every}
@@ -119,7 +119,7 @@ module _ (a : Air) (st : State) (r : Aside) (idle : Idle (layoutOf (a .image)) (
   fitting rp l = ap not (le-ltb (length (a .room)) (replyBytes rp) l)
 
   module _ (c : Command) (h : heardOf (a .frame) (a .bits) ≡ heard.said c) (w : wrongCommand st c ≡ false)
-      (b : breaks (layoutOf (a .image)) (a .image) (linkOf st) (linkOf st .half) (asksOf (c .order) .part) ≡ false)
+      (b : halvesOf (layoutOf (a .image)) (a .image) st (c .order) ≡ 0)
       (e : effectOf (scene handed) (c .order) .code ≡ code.Nothing) (room : replyBytes (effectOf (scene handed) (c .order) .reply) ≤ length (a .room))
       (power : length (changeStores (layoutOf (a .image) .work .at) (effectOf (scene handed) (c .order) .words)) ≤ a .power) where
     comes : Effect
@@ -143,6 +143,10 @@ module _ (a : Air) (st : State) (r : Aside) (idle : Idle (layoutOf (a .image)) (
     unfolding comes
     fits-is = ap (λ (q : Reply). fits q (a .room)) reply-is ∙ fitting (comes .reply) room
 
+    halves-is : halves handed ≡ 0
+    unfolding handed
+    halves-is = ap (λ (x : Message). halvesOf (layoutOf (a .image)) (a .image) st (commandIn x .order)) h ∙ b
+
     none : None (frameOf changeStores handed .rows)
     unfolding frameOf handed comes
     none =
@@ -163,12 +167,15 @@ module _ (a : Air) (st : State) (r : Aside) (idle : Idle (layoutOf (a .image)) (
                       (
                         ap (λ (x : Message). wrongCommand st (commandIn x)) h ∙ w,
                         (
-                          ap (λ (x : Message). breaks (layoutOf (a .image)) (a .image) (linkOf st) (linkOf st .half) (asksOf (commandIn x .order) .part)) h ∙ b,
+                          ap (λ (x : ℕ). eqb x 12) halves-is,
                           (
-                            ap (λ (q : Code). isError q && fits (replyOf handed) (a .room)) code-is,
+                            ap (λ (x : ℕ). eqb x 14) halves-is,
                             (
-                              ap not fits-is,
-                              (le-ltb (a .power) _ (subst (λ (z : Effect). length (changeStores (layoutOf (a .image) .work .at) (z .words)) ≤ a .power) (sym effect-is) power), tt),
+                              ap (λ (q : Code). isError q && fits (replyOf handed) (a .room)) code-is,
+                              (
+                                ap not fits-is,
+                                (le-ltb (a .power) _ (subst (λ (z : Effect). length (changeStores (layoutOf (a .image) .work .at) (z .words)) ≤ a .power) (sym effect-is) power), tt),
+                              ),
                             ),
                           ),
                         ),
@@ -227,21 +234,21 @@ module _ (a : Air) (r : Aside) (q : Round) (idle : Idle (layoutOf (a .image)) (a
   Comes n o st = Turns answerOf (layoutOf (a .image)) a r q n o st (at st o .flags) (record { state = at st o .state; reply = at st o .reply; words = at st o .words })
 
   order-done : (st : State) (n : ℕ) (o : Order) → wrongCommand st (record { number = n; order = o }) ≡ false
-      → breaks (layoutOf (a .image)) (a .image) (linkOf st) (linkOf st .half) (asksOf o .part) ≡ false → at st o .code ≡ code.Nothing → Comes n o st
+      → halvesOf (layoutOf (a .image)) (a .image) st o ≡ 0 → at st o .code ≡ code.Nothing → Comes n o st
   unfolding handed given comes at Comes
   order-done st n o w b e says enough =
       last-row a st r idle (record { number = n; order = o }) says w b e (in-bytes a st r idle (at st o .reply) (enough .0)) (enough .1)
       ∙ given-done a st r idle (at st o .reply) (at st o .flags) (at st o .state) (at st o .words)
 
   secured-done : (k : Link) (o : Order) → Named (asksOf o .who) → asksOf o .cover && not (isCovered (k .cover)) ≡ false → asksOf o .bad ≡ false
-      → breaks (layoutOf (a .image)) (a .image) k (k .half) (asksOf o .part) ≡ false → at (state.Secured k) o .code ≡ code.Nothing → Comes (k .handle) o (state.Secured k)
+      → halvesOf (layoutOf (a .image)) (a .image) (state.Secured k) o ≡ 0 → at (state.Secured k) o .code ≡ code.Nothing → Comes (k .handle) o (state.Secured k)
   secured-done k o t c d b e = order-done (state.Secured k) (k .handle) o (rw (heard-secured (asksOf o .who) k t, c, d)) b e
 
   open-done : (k : Link) (o : Order) → Named (asksOf o .who) → needsSecured (asksOf o .who) ≡ false → asksOf o .cover && not (isCovered (k .cover)) ≡ false → asksOf o .bad ≡ false
-      → breaks (layoutOf (a .image)) (a .image) k (k .half) (asksOf o .part) ≡ false → at (state.Open k) o .code ≡ code.Nothing → Comes (k .handle) o (state.Open k)
+      → halvesOf (layoutOf (a .image)) (a .image) (state.Open k) o ≡ 0 → at (state.Open k) o .code ≡ code.Nothing → Comes (k .handle) o (state.Open k)
   open-done k o t s c d b e = order-done (state.Open k) (k .handle) o (rw (heard-open (asksOf o .who) k t s, c, d)) b e
 
-  unbroken : (k : Link) (p : Half) → breaks (layoutOf (a .image)) (a .image) k p part.Between ≡ false
+  unbroken : (k : Link) (p : Half) → halvesRow (layoutOf (a .image)) (a .image) k p part.Between ≡ 0
   unbroken k half.Nothing = refl
   unbroken k (half.Access up) = refl
   unbroken k (half.Kill up) = refl
@@ -283,8 +290,8 @@ module _ (a : Air) (r : Aside) (q : Round) (idle : Idle (layoutOf (a .image)) (a
   no-code : {b : Bool} → b ≡ false → cond b (code.Error fault.Other) code.Nothing ≡ code.Nothing
   no-code e = ap (λ (t : Bool). cond t (code.Error fault.Other) code.Nothing) e
 
-  right : (up low u v : ℕ) → up ≡ u → low ≡ v → not (eqb up u && eqb low v) ≡ false
-  right up low u v i j = ap not (ap₂ _&&_ (eq-eqb up u i) (eq-eqb low v j))
+  right : (up low u v : ℕ) → up ≡ u → low ≡ v → _≡_ {A = ℕ} (cond (eqb up u && eqb low v) 0 12) 0
+  right up low u v i j = ap (λ (b : Bool). cond b 0 12) (ap₂ _&&_ (eq-eqb up u i) (eq-eqb low v j))
 
   radio : Rounds answerOf (layoutOf (a .image)) a r q → Radio answerOf (layoutOf (a .image)) a r q
   unfolding at Comes numbered-so
@@ -348,14 +355,14 @@ module _ (a : Air) (r : Aside) (q : Round) (idle : Idle (layoutOf (a .image)) (a
 module _ (a : Air) (r : Aside) (idle : Idle (layoutOf (a .image)) (a .image)) where
   -- an order that comes to e
   comes-to : (st : State) (q : Round) (n : ℕ) (o : Order) (e : Effect) → wrongCommand st (record { number = n; order = o }) ≡ false
-      → breaks (layoutOf (a .image)) (a .image) (linkOf st) (linkOf st .half) (asksOf o .part) ≡ false → at a r q idle st o ≡ e → e .code ≡ code.Nothing
+      → halvesOf (layoutOf (a .image)) (a .image) st o ≡ 0 → at a r q idle st o ≡ e → e .code ≡ code.Nothing
       → Turns answerOf (layoutOf (a .image)) a r q n o st (e .flags) (record { state = e .state; reply = e .reply; words = e .words })
   unfolding Comes
   comes-to st q n o e w b h c =
       subst (λ (x : Effect). Turns answerOf (layoutOf (a .image)) a r q n o st (x .flags) (record { state = x .state; reply = x .reply; words = x .words })) h
       (order-done a r q idle st n o w b (ap (λ (x : Effect). x .code) h ∙ c))
 
-  between : (st : State) (q : Round) → breaks (layoutOf (a .image)) (a .image) (linkOf st) (linkOf st .half) part.Between ≡ false
+  between : (st : State) (q : Round) → halvesRow (layoutOf (a .image)) (a .image) (linkOf st) (linkOf st .half) part.Between ≡ 0
   between st q = unbroken a r q idle (linkOf st) (linkOf st .half)
 
   -- a slot that is drawn or counted down
@@ -443,16 +450,16 @@ module _ (a : Air) (r : Aside) (idle : Idle (layoutOf (a .image)) (a .image)) wh
       }
 
   ack-to : (st : State) (q : Round) (n : ℕ) → linkOf st .handle ≡ n → wrongCommand st (record { number = 0; order = order.Ack n }) ≡ false
-      → breaks (layoutOf (a .image)) (a .image) (linkOf st) (linkOf st .half) (part.To n) ≡ false
+      → halvesRow (layoutOf (a .image)) (a .image) (linkOf st) (linkOf st .half) (part.To n) ≡ 0
       → Does answerOf (layoutOf (a .image)) a r q 0 (order.Ack n) st (showsEpc (layoutOf (a .image)) a (acknowledged st))
   unfolding at shown
   ack-to st q n e w b =
       comes-to st q 0 (order.Ack n) (shown st) w b (ap (λ (t : Bool). cond t (shown st) (turns (r .flags) (fallen st))) (eq-eqb (linkOf st .handle) n e)) refl
 
-  not-to : (k : Link) (p : Half) (n : ℕ) → k .handle ≢ n → breaks (layoutOf (a .image)) (a .image) k p (part.To n) ≡ false
+  not-to : (k : Link) (p : Half) (n : ℕ) → k .handle ≢ n → halvesRow (layoutOf (a .image)) (a .image) k p (part.To n) ≡ 0
   not-to k half.Nothing n d = refl
-  not-to k (half.Access up) n d = ne-eqb (k .handle) n d
-  not-to k (half.Kill up) n d = ne-eqb (k .handle) n d
+  not-to k (half.Access up) n d = ap (λ (b : Bool). cond b 14 0) (ne-eqb (k .handle) n d)
+  not-to k (half.Kill up) n d = ap (λ (b : Bool). cond b 14 0) (ne-eqb (k .handle) n d)
 
   ack-off : (st : State) (q : Round) (n k : ℕ) → Numbered st q n → k ≢ n → Does answerOf (layoutOf (a .image)) a r q 0 (order.Ack k) st (quiet (state.Arbitrate q 0))
   unfolding at shown

@@ -16,3 +16,4 @@ pub mod Rounds
 pub mod Commands
 pub mod Short
 pub mod Refusals
+pub mod Former

@@ -54,10 +54,10 @@ use Rattle.states.specs.declared.State.the-variants as state
 use Rattle.tag.specs.declared.Session.{Session}
 use Rattle.tag.specs.Session.{offSession}
 use Rattle.tag.specs.Result.{Result, leaves, lost}
-use Rattle.states.specs.Commands.{badChoice, badUpDn, isKilled, asksOf, linkOf, isCovered, uncovered, wrongBy, zeroKill, killWord, breaks, used, fallen}
+use Rattle.states.specs.Commands.{badChoice, badUpDn, isKilled, asksOf, linkOf, isCovered, uncovered, wrongBy, zeroKill, killWord, halvesRow, halvesOf, used, fallen}
 use Rattle.states.specs.Steps.{asks, wrongCommand}
 use Rattle.plans.specs.Effects.{Scene, Effect, effectOf}
-use Rattle.tag.specs.Table.{Input, broken, effect, isError, replyOr, replyOf, fits, everything, frameOf, liveOf, isOff, refusedBy, commandIn, command, scene}
+use Rattle.tag.specs.Table.{Input, halves, effect, isError, replyOr, replyOf, fits, everything, frameOf, liveOf, isOff, refusedBy, commandIn, command, scene}
 use Rattle.tag.specs.Power.{powerUpOf}
 use Rattle.tag.specs.Port.{badCount, badData, refusals, portWords, askOf, releaseOf, registerOf, readOf, writeOf}
 use Rattle.demands.specs.Calls.{Call, asked, powerUp, ask, read, write, Aside, awake, answerOf, Idle}
@@ -143,7 +143,7 @@ module _ (y : Layout) (a : Air) (st : State) (r : Aside) (idle : Idle y (a .imag
       let z : countIn (layoutOf (a .image)) (a .image) ≡ 0 = subst (λ (x : Layout). countIn x (a .image) ≡ 0) (check-good (a .image) y (idle .sound) .layout) (idle .nothing) in
       (c .0, (c .1, (c .2, (ap not (eq-eqb (countIn (layoutOf (a .image)) (a .image)) 0 z), (refl, h)))))
 
-  -- the rows from 7 on: 7, 8, 9, 12, and 10
+  -- the rows from 7 on: 7, 8, 9, 12, 14, and 10
   row-7 : heardOf (a .frame) (a .bits) ≡ heard.refused 7 → answersTo answerOf a (awake st false r) ≡ stays 7 a (awake st false r)
   unfolding frameOf handed last
   row-7 h = first-at 5 (frameOf changeStores handed .rows) (last handed) (ready 0 (drop 5 (frameOf changeStores handed .rows)) (ap (refusedBy 7) h))
@@ -157,9 +157,9 @@ module _ (y : Layout) (a : Air) (st : State) (r : Aside) (idle : Idle y (a .imag
     unfolding handed
     wrong-is = ap (λ (x : Message). wrongCommand st (commandIn x)) h
 
-    broken-is : broken handed ≡ breaks (layoutOf (a .image)) (a .image) (linkOf st) (linkOf st .half) (asksOf (c .order) .part)
+    halves-is : halves handed ≡ halvesOf (layoutOf (a .image)) (a .image) st (c .order)
     unfolding handed
-    broken-is = ap (λ (x : Message). breaks (layoutOf (a .image)) (a .image) (linkOf st) (linkOf st .half) (asksOf (commandIn x .order) .part)) h
+    halves-is = ap (λ (x : Message). halvesOf (layoutOf (a .image)) (a .image) st (commandIn x .order)) h
 
     row-9 : wrongCommand st c ≡ true → answersTo answerOf a (awake st false r) ≡ stays 9 a (awake st false r)
     unfolding frameOf handed last
@@ -167,12 +167,20 @@ module _ (y : Layout) (a : Air) (st : State) (r : Aside) (idle : Idle y (a .imag
         first-at 7 (frameOf changeStores handed .rows) (last handed)
         (ready 2 (drop 5 (frameOf changeStores handed .rows)) (ap (refusedBy 7) h, (ap (refusedBy 8) h, wrong-is ∙ e)))
 
-    row-12 : wrongCommand st c ≡ false → breaks (layoutOf (a .image)) (a .image) (linkOf st) (linkOf st .half) (asksOf (c .order) .part) ≡ true
-        → answersTo answerOf a (awake st false r) ≡ leaves 12 (awake (fallen st) false r) (a .image) (a .room)
+    -- the halves say k, and so not n
+    halves-not : (n k : ℕ) → halvesOf (layoutOf (a .image)) (a .image) st (c .order) ≡ k → eqb k n ≡ false → eqb (halves handed) n ≡ false
+    halves-not n k e f = ap (λ (x : ℕ). eqb x n) (halves-is ∙ e) ∙ f
+
+    -- 12, or 14 where they are broken
+    row-halves : (broken : Bool) → wrongCommand st c ≡ false → halvesOf (layoutOf (a .image)) (a .image) st (c .order) ≡ cond broken 14 12
+        → answersTo answerOf a (awake st false r) ≡ leaves (cond broken 14 12) (awake (fallen st) false r) (a .image) (a .room)
     unfolding frameOf handed last
-    row-12 w e =
+    row-halves false w e =
         first-at 8 (frameOf changeStores handed .rows) (last handed)
-        (ready 3 (drop 5 (frameOf changeStores handed .rows)) (ap (refusedBy 7) h, (ap (refusedBy 8) h, (wrong-is ∙ w, broken-is ∙ e))))
+        (ready 3 (drop 5 (frameOf changeStores handed .rows)) (ap (refusedBy 7) h, (ap (refusedBy 8) h, (wrong-is ∙ w, ap (λ (x : ℕ). eqb x 12) (halves-is ∙ e)))))
+    row-halves true w e =
+        first-at 9 (frameOf changeStores handed .rows) (last handed)
+        (ready 4 (drop 5 (frameOf changeStores handed .rows)) (ap (refusedBy 7) h, (ap (refusedBy 8) h, (wrong-is ∙ w, (halves-not 12 14 e refl, ap (λ (x : ℕ). eqb x 14) (halves-is ∙ e))))))
 
     replied-as : Reply → Result
     replied-as z =
@@ -186,23 +194,26 @@ module _ (y : Layout) (a : Air) (st : State) (r : Aside) (idle : Idle y (a .imag
           room = packed (replyBits (a .image) z) (a .room);
         }
 
-    row-10 : (e : Fault) → wrongCommand st c ≡ false → breaks (layoutOf (a .image)) (a .image) (linkOf st) (linkOf st .half) (asksOf (c .order) .part) ≡ false
+    row-10 : (e : Fault) → wrongCommand st c ≡ false → halvesOf (layoutOf (a .image)) (a .image) st (c .order) ≡ 0
         → effectOf (scene handed) (c .order) .code ≡ code.Error e → 6 ≤ length (a .room)
         → answersTo answerOf a (awake st false r) ≡ replied-as (reply.Error (faultNumber e) (linkOf st .handle))
     unfolding frameOf handed last replied-as
     row-10 e w b d l =
         let code-is : effect handed .code ≡ code.Error e = ap (λ (x : Message). effectOf (scene handed) (commandIn x .order) .code) h ∙ d in
         let reply-is : replyOf handed ≡ reply.Error (faultNumber e) (linkOf st .handle) = ap (λ (q : Code). replyOr q (linkOf st .handle) (effect handed .reply)) code-is in
-        first-at 9 (frameOf changeStores handed .rows) (last handed)
-        (ready 4 (drop 5 (frameOf changeStores handed .rows)) (
+        first-at 10 (frameOf changeStores handed .rows) (last handed)
+        (ready 5 (drop 5 (frameOf changeStores handed .rows)) (
           ap (refusedBy 7) h,
           (
             ap (refusedBy 8) h,
             (
               wrong-is ∙ w,
               (
-                broken-is ∙ b,
-                ap₂ (λ (q : Code) (z : Reply). isError q && fits z (a .room)) code-is reply-is ∙ ap not (le-ltb (length (a .room)) 6 l),
+                halves-not 12 0 b refl,
+                (
+                  halves-not 14 0 b refl,
+                  ap₂ (λ (q : Code) (z : Reply). isError q && fits z (a .room)) code-is reply-is ∙ ap not (le-ltb (length (a .room)) 6 l),
+                ),
               ),
             ),
           ),
@@ -484,36 +495,36 @@ module _ (a : Air) (r : Aside) (rd : Round) (idle : Idle (layoutOf (a .image)) (
       unfit q h c p n o k (inl d) = other-wrong rd h c p q n (asksOf o) k d
       unfit q h c p n o k (inr f) = lacks-wrong rd h c p q n (asksOf o) k (lacks o q c f)
 
-  -- 12
-  says-12 : (q : Bool) (h : ℕ) (c : Cover) (p : Half) (o : Order) → Says a h o → Needs q c o → Addressed o
-      → breaks (layoutOf (a .image)) (a .image) (link rd h c p) p (asksOf o .part) ≡ true
-      → answersTo answerOf a (awake (linked q (link rd h c p)) false r) ≡ drops a r rd
-  says-12 true h c p o s f k e =
-      row-12 (layoutOf (a .image)) a (state.Secured (link rd h c p)) r idle (record { number = h; order = o }) s
+  -- 12, or 14 where the halves are broken
+  says-halves : (broken q : Bool) (h : ℕ) (c : Cover) (p : Half) (o : Order) → Says a h o → Needs q c o → Addressed o
+      → halvesRow (layoutOf (a .image)) (a .image) (link rd h c p) p (asksOf o .part) ≡ cond broken 14 12
+      → answersTo answerOf a (awake (linked q (link rd h c p)) false r) ≡ drops (cond broken 14 12) a r rd
+  says-halves b true h c p o s f k e =
+      row-halves (layoutOf (a .image)) a (state.Secured (link rd h c p)) r idle (record { number = h; order = o }) s b
       (has-right rd h c p true (asksOf o) (numbered-order o k) (has o true c k f)) e
-  says-12 false h c p o s f k e =
-      row-12 (layoutOf (a .image)) a (state.Open (link rd h c p)) r idle (record { number = h; order = o }) s
+  says-halves b false h c p o s f k e =
+      row-halves (layoutOf (a .image)) a (state.Open (link rd h c p)) r idle (record { number = h; order = o }) s b
       (has-right rd h c p false (asksOf o) (numbered-order o k) (has o false c k f)) e
 
-  addressed : (h : ℕ) (c : Cover) (p : Half) → Waits p → breaks (layoutOf (a .image)) (a .image) (link rd h c p) p (part.To h) ≡ true
+  addressed : (h : ℕ) (c : Cover) (p : Half) → Waits p → halvesRow (layoutOf (a .image)) (a .image) (link rd h c p) p (part.To h) ≡ 14
   addressed h c half.Nothing w = absurd w
-  addressed h c (half.Access up) w = eq-eqb h h refl
-  addressed h c (half.Kill up) w = eq-eqb h h refl
+  addressed h c (half.Access up) w = ap (λ (b : Bool). cond b 14 0) (eq-eqb h h refl)
+  addressed h c (half.Kill up) w = ap (λ (b : Bool). cond b 14 0) (eq-eqb h h refl)
 
-  ack-12 : (q : Bool) (h n : ℕ) (c : Cover) (p : Half) → Says a n (order.Ack h) → Waits p → answersTo answerOf a (awake (linked q (link rd h c p)) false r) ≡ drops a r rd
-  ack-12 true h n c p s w = row-12 (layoutOf (a .image)) a (state.Secured (link rd h c p)) r idle (record { number = n; order = order.Ack h }) s refl (addressed h c p w)
-  ack-12 false h n c p s w = row-12 (layoutOf (a .image)) a (state.Open (link rd h c p)) r idle (record { number = n; order = order.Ack h }) s refl (addressed h c p w)
+  ack-14 : (q : Bool) (h n : ℕ) (c : Cover) (p : Half) → Says a n (order.Ack h) → Waits p → answersTo answerOf a (awake (linked q (link rd h c p)) false r) ≡ drops 14 a r rd
+  ack-14 true h n c p s w = row-halves (layoutOf (a .image)) a (state.Secured (link rd h c p)) r idle (record { number = n; order = order.Ack h }) s true refl (addressed h c p w)
+  ack-14 false h n c p s w = row-halves (layoutOf (a .image)) a (state.Open (link rd h c p)) r idle (record { number = n; order = order.Ack h }) s true refl (addressed h c p w)
 
   -- two tests of which one fails
-  not-both : (x z : ℕ) (u v : ℕ) → (x ≢ u) ⊎ (z ≢ v) → not (eqb x u && eqb z v) ≡ true
-  not-both x z u v (inl d) = ap (λ (b : Bool). not (b && eqb z v)) (ne-eqb x u d)
-  not-both x z u v (inr d) = ap (λ (b : Bool). not (eqb x u && b)) (ne-eqb z v d) ∙ ap not (and-false (eqb x u))
+  not-both : (x z : ℕ) (u v : ℕ) → (x ≢ u) ⊎ (z ≢ v) → _≡_ {A = ℕ} (cond (eqb x u && eqb z v) 0 12) 12
+  not-both x z u v (inl d) = ap (λ (b : Bool). cond (b && eqb z v) 0 12) (ne-eqb x u d)
+  not-both x z u v (inr d) = ap (λ (b : Bool). cond b 0 12) (ap (λ (b : Bool). eqb x u && b) (ne-eqb z v d) ∙ and-false (eqb x u))
 
-  comes-between : (p : Half) (o : Order) (h : ℕ) (c : Cover) → Other p o → breaks (layoutOf (a .image)) (a .image) (link rd h c p) p (asksOf o .part) ≡ true
+  comes-between : (p : Half) (o : Order) (h : ℕ) (c : Cover) → Other p o → halvesRow (layoutOf (a .image)) (a .image) (link rd h c p) p (asksOf o .part) ≡ 14
   comes-between half.Nothing o h c f = absurd f
   comes-between (half.Access up) o h c f = go o f
     where
-      go : (o : Order) → Other (half.Access up) o → breaks (layoutOf (a .image)) (a .image) (link rd h c (half.Access up)) (half.Access up) (asksOf o .part) ≡ true
+      go : (o : Order) → Other (half.Access up) o → halvesRow (layoutOf (a .image)) (a .image) (link rd h c (half.Access up)) (half.Access up) (asksOf o .part) ≡ 14
       go (order.QueryRep k) f = absurd (f .0)
       go (order.Ack k) f = absurd (f .0)
       go (order.Query sel t x) f = absurd (f .0)
@@ -532,7 +543,7 @@ module _ (a : Air) (r : Aside) (rd : Round) (idle : Idle (layoutOf (a .image)) (
       go (order.Permalock rfu s at) f = refl
   comes-between (half.Kill up) o h c f = go o f
     where
-      go : (o : Order) → Other (half.Kill up) o → breaks (layoutOf (a .image)) (a .image) (link rd h c (half.Kill up)) (half.Kill up) (asksOf o .part) ≡ true
+      go : (o : Order) → Other (half.Kill up) o → halvesRow (layoutOf (a .image)) (a .image) (link rd h c (half.Kill up)) (half.Kill up) (asksOf o .part) ≡ 14
       go (order.QueryRep k) f = absurd (f .0)
       go (order.Ack k) f = absurd (f .0)
       go (order.Query sel t x) f = absurd (f .0)
@@ -558,10 +569,10 @@ module _ (a : Air) (r : Aside) (rd : Round) (idle : Idle (layoutOf (a .image)) (
   drop-lines : Dropped answerOf (layoutOf (a .image)) a r rd
   drop-lines =
       record {
-        access = λ q h c up w s d. says-12 q h (cover.Number c) (half.Access up) (order.Access w) s tt tt (not-both up (bitXor w c) _ _ d);
-        kill = λ q h c up w s d. says-12 q h (cover.Number c) (half.Kill up) (order.Kill w) s tt tt (not-both up (bitXor w c) _ _ d);
-        between = λ q h c p o s f d. says-12 q h c p o s f (other-to p o d) (comes-between p o h c d);
-        ack = ack-12;
+        access = λ q h c up w s d. says-halves false q h (cover.Number c) (half.Access up) (order.Access w) s tt tt (not-both up (bitXor w c) _ _ d);
+        kill = λ q h c up w s d. says-halves false q h (cover.Number c) (half.Kill up) (order.Kill w) s tt tt (not-both up (bitXor w c) _ _ d);
+        between = λ q h c p o s f d. says-halves true q h c p o s f (other-to p o d) (comes-between p o h c d);
+        ack = ack-14;
       }
 
   -- the code of an order where no half waits

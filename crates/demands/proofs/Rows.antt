@@ -144,7 +144,7 @@ module _ (v : Session) (m f : List ℕ) (bits fresh : ℕ) (room : List ℕ) (g 
   with-power s = input v m f bits fresh room s
 
   front : ℕ → Rows
-  front s = take 11 (frameOf changeStores (with-power s) .rows)
+  front s = take 12 (frameOf changeStores (with-power s) .rows)
 
   words : List Store
   words = effect (with-power 0) .words
@@ -167,7 +167,7 @@ module _ (v : Session) (m f : List ℕ) (bits fresh : ℕ) (room : List ℕ) (g 
 
   front-refused : (s : ℕ) → Each (Refused m) (front s)
   unfolding frameOf with-power front
-  front-refused s = (λ e. (refl, lit< tt), (λ e. (refl, lit< tt), (λ e. (refl, lit< tt), (λ e. (refl, lit< tt), (λ e. (refl, lit< tt), (λ e. (refl, lit< tt), (λ e. (refl, lit< tt), (λ e. (refl, lit< tt), (λ e. (refl, lit< tt), (λ e. (refl, lit< tt), (λ e. (refl, lit< tt), tt)))))))))))
+  front-refused s = (λ e. (refl, lit< tt), (λ e. (refl, lit< tt), (λ e. (refl, lit< tt), (λ e. (refl, lit< tt), (λ e. (refl, lit< tt), (λ e. (refl, lit< tt), (λ e. (refl, lit< tt), (λ e. (refl, lit< tt), (λ e. (refl, lit< tt), (λ e. (refl, lit< tt), (λ e. (refl, lit< tt), (λ e. (refl, lit< tt), tt))))))))))))
 
   -- the power matters to no row of the front
   same-front : (a b : ℕ) → None (front a) → None (front b)
@@ -178,8 +178,8 @@ module _ (v : Session) (m f : List ℕ) (bits fresh : ℕ) (room : List ℕ) (g 
   unfolding frameOf with-power front words
   words-plan h =
       go (heardOf f bits) refl
-      (no-error (effect (with-power 0) .code) (fits (replyOf (with-power 0)) room) (h .1 .1 .1 .1 .1 .1 .1 .1 .1 .0)
-      (not-false (fits (replyOf (with-power 0)) room) (h .1 .1 .1 .1 .1 .1 .1 .1 .1 .1 .0)))
+      (no-error (effect (with-power 0) .code) (fits (replyOf (with-power 0)) room) (h .1 .1 .1 .1 .1 .1 .1 .1 .1 .1 .0)
+      (not-false (fits (replyOf (with-power 0)) room) (h .1 .1 .1 .1 .1 .1 .1 .1 .1 .1 .1 .0)))
     where
       at : Message → Effect
       at x = effectOf (scene (with-power 0)) (commandIn x .order)

@@ -39,15 +39,15 @@ module _ (v : Session) (m f : List ℕ) (bits fresh : ℕ) where
   at : List ℕ → ℕ → Input
   at room power = input v m f bits fresh room power
 
-  -- rows 1 to 12, and what follows them
+  -- rows 1 to 14, and what follows them
   before : List ℕ → ℕ → Rows
-  before room power = take 9 (frameOf changeStores (at room power) .rows)
+  before room power = take 10 (frameOf changeStores (at room power) .rows)
 
   done : List ℕ → ℕ → Result
   done room power = replied (at room power) 0 (turnedTo (live (at room power)) (effect (at room power) .flags) (effect (at room power) .state)) (storesOf changeStores (at room power))
 
   behind : List ℕ → ℕ → Result
-  behind room power = first (drop 9 (frameOf changeStores (at room power) .rows)) (done room power)
+  behind room power = first (drop 10 (frameOf changeStores (at room power) .rows)) (done room power)
 
   split : (room : List ℕ) (power : ℕ) → firstOf (frameOf changeStores (at room power)) ≡ first (before room power) (behind room power)
   unfolding frameOf at before behind done
@@ -67,7 +67,7 @@ module _ (v : Session) (m f : List ℕ) (bits fresh : ℕ) where
             λ e. never 6 (omega arith) (omega arith),
             (
               λ e. never 7 (omega arith) (omega arith),
-              (λ e. never 8 (omega arith) (omega arith), (λ e. never 9 (omega arith) (omega arith), (λ e. never 12 (omega arith) (omega arith), tt))),
+              (λ e. never 8 (omega arith) (omega arith), (λ e. never 9 (omega arith) (omega arith), (λ e. never 12 (omega arith) (omega arith), (λ e. never 14 (omega arith) (omega arith), tt)))),
             ),
           ),
         ),
@@ -105,8 +105,8 @@ module _ (v : Session) (m f : List ℕ) (bits fresh : ℕ) where
             let long : 8 * length a < replyLength (replyOf (at b q)) = rw (ap (λ (r : Result). r .reply) is ∙ reply-behind b q (subst Replies is h)) at l in
             let small : length a < replyBytes (replyOf (at a p)) = omega (arith, long) in
             let no : fits (replyOf (at a p)) a ≡ false = ap not (lt-ltb (length a) (replyBytes (replyOf (at a p))) small) in
-            first-at 10 (frameOf changeStores (at a p) .rows) (done a p)
-            (reach-behind 1 (before a p) (drop 9 (frameOf changeStores (at a p) .rows)) n
+            first-at 11 (frameOf changeStores (at a p) .rows) (done a p)
+            (reach-behind 1 (before a p) (drop 10 (frameOf changeStores (at a p) .rows)) n
             (ap (λ (t : Bool). isError (effect (at a p) .code) && t) no ∙ and-false (isError (effect (at a p) .code)), ap not no))
 
 pub short : TooLittle answerOf

@@ -7,7 +7,7 @@ use mathlib.Core.List.{List, [], _∷_}
 use native.Mathlib.Omega.{arith}
 use lib.Dec.{eqb, leb, ltb, lit≤}
 use lib.ListN.{length, take}
-use borrow.Author.Tests.{eqb-true, leb-true, ltb-true, eq-eqb, ne-eqb, lt-ltb, le-ltb}
+use borrow.Author.Tests.{eqb-true, eqb-false, leb-true, ltb-true, eq-eqb, ne-eqb, lt-ltb, le-ltb}
 use Rattle.bits.specs.Words.{after}
 use Rattle.bits.specs.Bits.{wordsBits}
 use Rattle.bits.specs.First.{first}
@@ -39,11 +39,11 @@ use Rattle.tag.specs.Steps.{input}
 use Rattle.stores.specs.Stores.{changeStores}
 use Rattle.tag.specs.Port.{askOf, releaseOf, registerOf, readBits, readOf, writeOf}
 use Rattle.demands.specs.Calls.{Call, powerUp, frame, ask, release, register, read, write, Tag, answerOf, sessionIn, imageIn, roomIn, powerIn, storesIn, valueIn, answersIn}
-use Rattle.demands.specs.Demands.{refuses, AnErrorCode, Tabled, Checks, orderIn, numbersOf, Under, Exact, Demand1}
+use Rattle.demands.specs.Demands.{refuses, fallsBack, AnErrorCode, Tabled, Checks, orderIn, numbersOf, Under, Exact, Demand1}
 use Rattle.demands.proofs.Rows.{Rows, Each, first-each}
 use Rattle.demands.proofs.Bounds.{bounds-so}
 
-refusal-small : (n : ℕ) → refuses n ≡ true → n ≤ 13
+refusal-small : (n : ℕ) → refuses n ≡ true → n ≤ 14
 refusal-small n e =
     ⊎-elim (λ a. omega (arith, leb-true n 9 (and-right (leb 1 n) (leb n 9) a))) (λ a. omega (arith, eqb-true n 13 a)) (or-cases (within 1 9 n) (eqb n 13) e)
 
@@ -67,7 +67,7 @@ module _ (t : Tag) (c : Call) where
         error = λ q. absurd (other q refl);
         coded = λ q. absurd (other q refl);
         lost = λ q. absurd (other q refl);
-        dropped = λ q. absurd (other q refl);
+        dropped = λ q. absurd (⊎-elim (λ a. other (eqb-true n 12 a) refl) (λ a. other (eqb-true n 14 a) refl) (or-cases (eqb n 12) (eqb n 14) q));
         silent = λ q. refl;
         made = λ q. absurd (other q refl);
         value = sym (ap (λ (b : Bool). cond b (valueIn t c) 0) (ne-eqb n 0 (λ q. other q refl)));
@@ -84,7 +84,7 @@ module _ (t : Tag) (c : Call) where
         error = λ q. absurd (omega (arith, z, q));
         coded = λ q. absurd (omega (arith, z, q));
         lost = λ q. absurd (omega (arith, z, q));
-        dropped = λ q. absurd (omega (arith, z, q));
+        dropped = λ q. absurd (false≢true (sym (ap fallsBack z) ∙ q));
         silent = s;
         made = λ q. k;
         value = v ∙ sym (ap (λ (b : Bool). cond b (valueIn t c) 0) (eq-eqb (r .number) 0 z));
@@ -99,7 +99,7 @@ module _ (t : Tag) (c : Call) where
         error = λ q. absurd (omega arith);
         coded = λ q. absurd (omega arith);
         lost = λ q. (l, refl);
-        dropped = λ q. absurd (omega arith);
+        dropped = λ q. absurd (false≢true q);
         silent = λ q. refl;
         made = λ q. absurd (omega arith);
         value = refl;
@@ -145,25 +145,26 @@ module _ (v : Session) (m f : List ℕ) (bits fresh : ℕ) (room : List ℕ) (s 
         error = λ q. (refl, refl, refl, error-length c b h d e, ap (λ (x : Reply). packed (replyBits m x) room) (error-same c b h d e));
         coded = λ q. code-known c b e;
         lost = λ q. absurd (omega arith);
-        dropped = λ q. absurd (omega arith);
+        dropped = λ q. absurd (false≢true q);
         silent = silence m room (replyOf handed);
         made = λ q. absurd (omega arith);
         value = refl;
       }
 
-  dropped-row : Tabled tag call (dropped handed 12)
+  -- a row that falls back: none of the numbers 0, 10 and 11, and none that leaves everything
+  dropped-row : (n : ℕ) → n ≤ 14 → refuses n ≡ false → eqb n 0 ≡ false → eqb n 10 ≡ false → eqb n 11 ≡ false → Tabled tag call (dropped handed n)
   unfolding tag call handed
-  dropped-row =
+  dropped-row n few every zero ten eleven =
       record {
-        listed = lit≤ tt;
-        everything = λ q. absurd (false≢true q);
-        error = λ q. absurd (omega arith);
-        coded = λ q. absurd (omega arith);
-        lost = λ q. absurd (omega arith);
+        listed = few;
+        everything = λ q. absurd (false≢true (sym every ∙ q));
+        error = λ q. absurd (eqb-false n 10 ten q);
+        coded = λ q. absurd (eqb-false n 10 ten q);
+        lost = λ q. absurd (eqb-false n 11 eleven q);
         dropped = λ q. refl;
         silent = λ q. refl;
-        made = λ q. absurd (omega arith);
-        value = refl;
+        made = λ q. absurd (eqb-false n 0 zero q);
+        value = sym (ap (λ (b : Bool). cond b (valueIn tag call) 0) zero);
       }
 
   frame-rows : Each (Tabled tag call) (frameOf changeStores handed .rows)
@@ -184,7 +185,7 @@ module _ (v : Session) (m f : List ℕ) (bits fresh : ℕ) (room : List ℕ) (s 
                 λ e. refusal tag call 8 refl,
                 (
                   λ e. refusal tag call 9 refl,
-                  (λ e. dropped-row, (error-row, (λ e. refusal tag call 4 refl, (λ e. lost-answer tag call (ltb-true _ _ e), tt)))),
+                  (λ e. dropped-row 12 (lit≤ tt) refl refl refl refl, (λ e. dropped-row 14 (lit≤ tt) refl refl refl refl, (error-row, (λ e. refusal tag call 4 refl, (λ e. lost-answer tag call (ltb-true _ _ e), tt))))),
                 ),
               ),
             ),

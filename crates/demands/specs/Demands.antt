@@ -41,6 +41,10 @@ use Rattle.demands.specs.Calls.{Call, powerUp, frame, ask, release, regi
 abbrev pub refuses : ℕ → Bool
 refuses n = within 1 9 n || eqb n 13
 
+-- the numbers of a wrong password and of broken halves
+abbrev pub fallsBack : ℕ → Bool
+fallsBack n = eqb n 12 || eqb n 14
+
 -- the error codes
 abbrev pub AnErrorCode : Code → Type 0
 AnErrorCode code.Nothing = ⊥
@@ -48,10 +52,10 @@ AnErrorCode (code.Error e) = (faultNumber e ≡ 0x00) ⊎ (faultNumber e ≡ 0x0
 
 -- number by number: 1 to 9 and 13 leave everything (of a power-up with an Off session); 10 gives the error reply of its code, leaves the
 -- image and uses up the cover number; 11 comes where the power lasts for fewer stores than are needed, and leaves the first s of them, Off
--- and no reply; 12 leaves the image, Arbitrate and no reply; and an answer without a reply changes no byte of the room. Done, it makes its
+-- and no reply; 12 and 14 leave the image, Arbitrate and no reply; and an answer without a reply changes no byte of the room. Done, it makes its
 -- stores and no other; a value is handed back where the register is read, and is 0 elsewhere. WHEN each number comes: `Refusals`
 pub record Tabled (t : Tag) (c : Call) (r : Result) : Type 0 where
-  pub listed : r .number ≤ 13
+  pub listed : r .number ≤ 14
   pub everything : refuses (r .number) ≡ true → r ≡ leaves (r .number) (sessionIn t c) (imageIn t c) (roomIn c)
   pub error : r .number ≡ 10
       → let l = liveOf (t .session .power) in
@@ -73,7 +77,7 @@ pub record Tabled (t : Tag) (c : Call) (r : Result) : Type 0 where
         image = after (imageIn t c) (take (powerIn c) (storesIn t c));
         room = roomIn c;
       })
-  pub dropped : r .number ≡ 12 → r ≡ leaves 12 (let l = liveOf (t .session .power) in movedTo l (fallen (l .state))) (imageIn t c) (roomIn c)
+  pub dropped : fallsBack (r .number) ≡ true → r ≡ leaves (r .number) (let l = liveOf (t .session .power) in movedTo l (fallen (l .state))) (imageIn t c) (roomIn c)
   pub silent : r .reply ≡ 0 → r .room ≡ roomIn c
   pub made : r .number ≡ 0 → (r .stores ≡ length (storesIn t c)) × (r .image ≡ after (imageIn t c) (storesIn t c))
   pub value : r .value ≡ cond (eqb (r .number) 0) (valueIn t c) 0
@@ -89,7 +93,7 @@ pub record Checks (m : List ℕ) : Type 0 where
 -- the order in which each call's answers are asked for
 abbrev pub orderIn : Call → List ℕ
 orderIn (powerUp s) = 1 ∷ 2 ∷ 3 ∷ 11 ∷ []
-orderIn (frame f bits fresh room s) = 1 ∷ 2 ∷ 3 ∷ 5 ∷ 6 ∷ 7 ∷ 8 ∷ 9 ∷ 12 ∷ 10 ∷ 4 ∷ 11 ∷ []
+orderIn (frame f bits fresh room s) = 1 ∷ 2 ∷ 3 ∷ 5 ∷ 6 ∷ 7 ∷ 8 ∷ 9 ∷ 12 ∷ 14 ∷ 10 ∷ 4 ∷ 11 ∷ []
 orderIn ask = 5 ∷ 6 ∷ []
 orderIn release = 5 ∷ 6 ∷ []
 orderIn register = 5 ∷ 6 ∷ []

@@ -1,5 +1,8 @@
 -- Tags with one fault each, and the demand that catches it, computed (RULES 7.5). Assumes nothing.
 --   takes any password            Refusals: dropped .access
+--   lets commands pass between the halves    Refusals: dropped .between
+--   answers 12 to broken halves   Refusals: dropped .between
+--   answers 14 to a wrong password           Refusals: dropped .access
 --   ignores the handle            Refusals: wrong .handle
 --   ignores a frame's CRC-16      Refusals: unheard .checksum
 --   hears frames while the port is held      Refusals: unready .held
@@ -42,11 +45,11 @@ use Rattle.tag.specs.Port.{bitOf}
 use Rattle.demands.specs.Calls.{awake, Program}
 use Rattle.demands.specs.Commands.{Demand2, answersTo, link}
 use Rattle.demands.specs.Facts.{Matches}
-use Rattle.demands.specs.Refusals.{Refusals}
+use Rattle.demands.specs.Refusals.{Other, Refusals}
 use Rattle.demands.specs.Worked.{query0, write3, round}
 use Rattle.demands.specs.Answers.{badSum}
 use Rattle.demands.specs.Met.{air, met, access, once, s2B}
-use Rattle.demands.specs.Empty.{framing, fresh, opened, must-write}
+use Rattle.demands.specs.Empty.{framing, withNumber, fresh, opened, must-write}
 use Rattle.tag.specs.Steps.{input}
 use Rattle.stores.specs.Stores.{changeStores}
 use Rattle.demands.specs.Terms.{sealed}
@@ -58,9 +61,22 @@ byRows f = framing (λ i. let t = frameOf changeStores i in first (f (t .rows)) 
 abbrev pub without : ℕ → Program
 without k = byRows (λ rs. take k rs ++ drop (suc k) rs)
 
--- the rows 6 and 12 are numbers 4 and 8 of the table's list
+-- the rows 6, 12 and 14 are numbers 4, 8 and 9 of the table's list, from 0 on
 abbrev pub takesAnyPassword : Program
 takesAnyPassword = without 8
+
+abbrev pub hearsBetween : Program
+hearsBetween = without 9
+
+-- the right answer, but for one number another
+abbrev renumbered : ℕ → ℕ → Program
+renumbered n k = framing (λ i. let r = firstOf (frameOf changeStores i) in cond (eqb (r .number) n) (withNumber k r) r)
+
+abbrev pub callsBrokenWrong : Program
+callsBrokenWrong = renumbered 14 12
+
+abbrev pub callsWrongBroken : Program
+callsWrongBroken = renumbered 12 14
 
 abbrev pub hearsWhileHeld : Program
 hearsWhileHeld = without 4
@@ -113,10 +129,10 @@ abbrev pub matchesEarly : Program
 matchesEarly =
     framing (λ i. let r = firstOf (frameOf changeStores i) in cond (eqb (fieldAt (i .frame) 0 4) 8 && eqb (r .number) 0) (mixed i r (early i)) r)
 
--- named inputs: a second half of Access in Secured, where 1111h waits as the upper half of the password 00000000h; P7's Write with
--- another CRC-16, with another handle, and while the port is held; a Query of session 2, target A, in Acknowledged of that session
-abbrev waiting : Session
-waiting = awake (state.Secured (link round 0x1234 (cover.Number 0x5A5A) (half.Access 0x1111))) false fresh
+-- named inputs: a second half of Access in Secured, where 1111h waits as the upper half of the password 00000000h; P7's Write where the
+-- right upper half waits, with another CRC-16, with another handle, and while the port is held; a Query of session 2, target A, in Acknowledged of that session
+abbrev waiting : ℕ → Session
+waiting up = awake (state.Secured (link round 0x1234 (cover.Number 0x5A5A) (half.Access up))) false fresh
 
 abbrev other : Session
 other = awake (state.Open (link round 0x4321 (cover.Number 0x5A5A) half.Nothing)) false fresh
@@ -128,7 +144,10 @@ abbrev acknowledged : Session
 acknowledged = awake (state.Acknowledged round 0xBEEF) false fresh
 
 record Numbers : Type 0 where
-  password : answersTo takesAnyPassword (air access 56) waiting .number ≡ 0
+  password : answersTo takesAnyPassword (air access 56) (waiting 0x1111) .number ≡ 0
+  between : answersTo hearsBetween (air write3 66) (waiting 0) .number ≡ 0
+  broken : answersTo callsBrokenWrong (air write3 66) (waiting 0) .number ≡ 12
+  mistyped : answersTo callsWrongBroken (air access 56) (waiting 0x1111) .number ≡ 14
   handle : answersTo ignoresHandle (air write3 66) other .number ≡ 0
   checksum : answersTo ignoresChecksum (air badSum 66) opened .number ≡ 0
   held : answersTo hearsWhileHeld (air write3 66) (awake (state.Open (link round 0x1234 (cover.Number 0x5A5A) half.Nothing)) true fresh) .number ≡ 0
@@ -138,7 +157,7 @@ record Numbers : Type 0 where
 
 numbers : Numbers
 unfolding frameOf layoutOf headerGood blocksIn contentGood rulesHold worked wordAt withWord wordsBits bitsOf crcOf fieldAt pointerAt heardOf checksumRight checksum5Right crc5Of filled packed checked writeCode query0 write3 access
-numbers = record { password = refl; handle = refl; checksum = refl; held = refl; first = refl; wrong = refl; flag = refl }
+numbers = record { password = refl; between = refl; broken = refl; mistyped = refl; handle = refl; checksum = refl; held = refl; first = refl; wrong = refl; flag = refl }
 
 -- the handle is 1234h, not 4321h; the password's upper half is 0, not 1111h
 other-handle : _≢_ {A = ℕ} 0x1234 0x4321
@@ -148,12 +167,30 @@ other-half : 0x1111 ≢ wordAt worked 20
 unfolding worked wordAt
 other-half e = omega (arith, e)
 
+must-refuse : (A : Program) → Refusals A → answersTo A (air access 56) (waiting 0x1111) .number ≡ 12
+must-refuse A d =
+    ap (λ (r : Result). r .number) (d .dropped workedLayout (air access 56) fresh round (met .idle) .access true 0x1234 0x5A5A 0x1111 0x5A5A (met .access-half .0) (inl other-half))
+
 pub password-caught : Refusals takesAnyPassword → ⊥
-password-caught d =
-    let z : _≡_ {A = ℕ} 0 12 =
-    sym (numbers .password)
-    ∙ ap (λ (r : Result). r .number) (d .dropped workedLayout (air access 56) fresh round (met .idle) .access true 0x1234 0x5A5A 0x1111 0x5A5A (met .access-half .0) (inl other-half)) in
-    omega arith
+password-caught d = let z : _≡_ {A = ℕ} 0 12 = sym (numbers .password) ∙ must-refuse takesAnyPassword d in omega arith
+
+-- a Write comes between the halves
+write-other : Other (half.Access 0) (order.Write (span 3 3 1) 0xF197)
+write-other = (tt, λ e. let z : _≡_ {A = ℕ} 0 1 = cc in omega arith, λ h e. let z : _≡_ {A = ℕ} 0 1 = cc in omega arith)
+
+must-break : (A : Program) → Refusals A → answersTo A (air write3 66) (waiting 0) .number ≡ 14
+must-break A d =
+    ap (λ (r : Result). r .number)
+    (d .dropped workedLayout (air write3 66) fresh round (met .idle) .between true 0x1234 (cover.Number 0x5A5A) (half.Access 0) (order.Write (span 3 3 1) 0xF197) (met .write .0) tt write-other)
+
+pub between-caught : Refusals hearsBetween → ⊥
+between-caught d = let z : _≡_ {A = ℕ} 0 14 = sym (numbers .between) ∙ must-break hearsBetween d in omega arith
+
+pub broken-caught : Refusals callsBrokenWrong → ⊥
+broken-caught d = let z : _≡_ {A = ℕ} 12 14 = sym (numbers .broken) ∙ must-break callsBrokenWrong d in omega arith
+
+pub mistyped-caught : Refusals callsWrongBroken → ⊥
+mistyped-caught d = let z : _≡_ {A = ℕ} 14 12 = sym (numbers .mistyped) ∙ must-refuse callsWrongBroken d in omega arith
 
 pub handle-caught : Refusals ignoresHandle → ⊥
 handle-caught d =

@@ -16,3 +16,4 @@ pub mod Empty
 pub mod Answers
 pub mod Refusals
 pub mod Faults
+pub mod Former

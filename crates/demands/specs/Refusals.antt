@@ -43,8 +43,8 @@ abbrev pub stays : ℕ → Air → Session → Result
 stays n a s = leaves n s (a .image) (a .room)
 
 -- Arbitrate with slot 0, no reply, the image as before; round, flags, port and register stay
-abbrev pub drops : Air → Aside → Round → Result
-drops a r q = leaves 12 (awake (state.Arbitrate q 0) false r) (a .image) (a .room)
+abbrev pub drops : ℕ → Air → Aside → Round → Result
+drops n a r q = leaves n (awake (state.Arbitrate q 0) false r) (a .image) (a .room)
 
 -- the error reply of 41 bits; the cover number is used up
 abbrev pub errs : Air → Aside → Round → Bool → ℕ → ℕ → Result
@@ -174,19 +174,20 @@ pub record OutOfPlace (A : Program) (a : Air) (r : Aside) (q : Round) : Type 0 w
       → (n ≢ h) ⊎ (Needs secured c o → ⊥)
       → answersTo A a (awake (linked secured (link q h c p)) false r) ≡ stays 9 a (awake (linked secured (link q h c p)) false r)
 
--- 12: a password that is wrong, or whose halves are broken; c is the cover number
+-- 12 and 14; c is the cover number
 pub record Dropped (A : Program) (y : Layout) (a : Air) (r : Aside) (q : Round) : Type 0 where
+  -- 12: the lower half comes, and the password is wrong
   pub access : (secured : Bool) (h c up w : ℕ) → Says a h (order.Access w)
       → (up ≢ accessWord y (a .image) 0) ⊎ (bitXor w c ≢ accessWord y (a .image) 1)
-      → answersTo A a (awake (linked secured (link q h (cover.Number c) (half.Access up))) false r) ≡ drops a r q
+      → answersTo A a (awake (linked secured (link q h (cover.Number c) (half.Access up))) false r) ≡ drops 12 a r q
   pub kill : (secured : Bool) (h c up w : ℕ) → Says a h (order.Kill w)
       → (up ≢ killWord y (a .image) 0) ⊎ (bitXor w c ≢ killWord y (a .image) 1)
-      → answersTo A a (awake (linked secured (link q h (cover.Number c) (half.Kill up))) false r) ≡ drops a r q
+      → answersTo A a (awake (linked secured (link q h (cover.Number c) (half.Kill up))) false r) ≡ drops 12 a r q
+  -- 14: another command comes between the halves; an ACK with the handle is a command to this tag
   pub between : (secured : Bool) (h : ℕ) (c : Cover) (p : Half) (o : Order) → Says a h o → Needs secured c o → Other p o
-      → answersTo A a (awake (linked secured (link q h c p)) false r) ≡ drops a r q
-  -- an ACK with the handle is a command to this tag
+      → answersTo A a (awake (linked secured (link q h c p)) false r) ≡ drops 14 a r q
   pub ack : (secured : Bool) (h n : ℕ) (c : Cover) (p : Half) → Says a n (order.Ack h) → Waits p
-      → answersTo A a (awake (linked secured (link q h c p)) false r) ≡ drops a r q
+      → answersTo A a (awake (linked secured (link q h c p)) false r) ≡ drops 14 a r q
 
 -- 10: an error code, no half waiting and room for the reply of 41 bits, 6 bytes
 module _ (A : Program) (y : Layout) (a : Air) (r : Aside) (q : Round) (secured : Bool) (h : ℕ) (c : Cover) where

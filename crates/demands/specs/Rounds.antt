@@ -284,7 +284,7 @@ pub record Acks : Type 0 where
   pub wrong-again : sent acknowledged ack1234 18 0x5678 ≡ silent 0 (slotted 0)
   pub wrong-handle : sent (secured covered) ackBEEF 18 0x5678 ≡ silent 0 (slotted 0)
   pub wrong-halfway : sent (secured halfway) ackBEEF 18 0x5678 ≡ silent 0 (slotted 0)
-  pub between : sent (secured halfway) ack1234 18 0x5678 ≡ silent 12 (slotted 0)
+  pub between : sent (secured halfway) ack1234 18 0x5678 ≡ silent 14 (slotted 0)
   pub early : sent ready ackBEEF 18 0x5678 ≡ silent 9 ready
   pub waiting : sent (slotted 0) ackBEEF 18 0x5678 ≡ silent 9 (slotted 0)
   pub dead : sent killed ackBEEF 18 0x5678 ≡ silent 9 killed

@@ -32,7 +32,7 @@ use Rattle.tag.specs.Table.{liveOf, frameOf}
 use Rattle.tag.specs.Port.{bitOf, askOf, releaseOf, registerOf, readOf}
 use Rattle.demands.specs.Worked.{query0, write3, write16, round, usedUp, sent, powered}
 use Rattle.demands.specs.Ports.{holding, reads, registers}
-use Rattle.demands.specs.Met.{block2}
+use Rattle.demands.specs.Met.{block2, access}
 use Rattle.tag.specs.Steps.{input, gives}
 use Rattle.stores.specs.Stores.{changeStores}
 
@@ -101,16 +101,25 @@ pub read-short : firstOf (readOf (holding state.Ready false false) worked 2 2 (r
 read-short e = let z : _≡_ {A = ℕ} 4 0 = sym (ap (λ (r : Result). r .number) (reads .no-room)) ∙ e in omega arith
 
 -- Write ABCDh to USER 3 while an upper half of Access waits; and to a tag whose port is held
+abbrev waiting : Cover → ℕ → Session
+waiting c up = newSession (state.Secured (record { round = round; handle = 0x1234; cover = c; half = half.Access up }))
+
 abbrev between : Cover → Result
-between c = firstOf (frameOf changeStores (input (newSession (state.Secured (record { round = round; handle = 0x1234; cover = c; half = half.Access 0 }))) worked write3 66 0 (replicate 12 0xAA) 5))
+between c = firstOf (frameOf changeStores (input (waiting c 0) worked write3 66 0 (replicate 12 0xAA) 5))
+
+-- Access's lower half, where an upper half waits that is not the password's
+abbrev mistyped : Result
+mistyped = firstOf (frameOf changeStores (input (waiting (cover.Number 0x5A5A) 0x1111) worked access 56 0 (replicate 12 0xAA) 5))
 
 abbrev whileHeld : List ℕ → Result
 whileHeld m = firstOf (frameOf changeStores (input (holding state.Ready false false) m write3 66 0 (replicate 12 0xAA) 5))
 
 pub record Frames : Type 0 where
-  -- without a cover number it is 9, with one 12
+  -- without a cover number it is 9, with one 14
   pub bare : between cover.Nothing .number ≡ 9
-  pub broken : between (cover.Number 0x5A5A) .number ≡ 12
+  pub broken : between (cover.Number 0x5A5A) .number ≡ 14
+  -- a wrong password is 12
+  pub wrong : mistyped .number ≡ 12
   -- with a word pending it is 5, else 6
   pub pending : whileHeld (pendingOne 17 1) .number ≡ 5
   pub held : whileHeld worked .number ≡ 6
@@ -120,12 +129,19 @@ pub record Frames : Type 0 where
   pub whole : wordAt (sent worked block2 90 8 .image) 31 ≡ 0x2222
 
 pub frames : Frames
-unfolding frameOf layoutOf headerGood blocksIn contentGood rulesHold worked wordAt withWord wordsBits bitsOf crcOf fieldAt pointerAt heardOf checksumRight filled packed checked writeCode write3 write16 block2
-frames = record { bare = refl; broken = refl; pending = refl; held = refl; error = refl; whole = refl }
+unfolding frameOf layoutOf headerGood blocksIn contentGood rulesHold worked wordAt withWord wordsBits bitsOf crcOf fieldAt pointerAt heardOf checksumRight filled packed checked writeCode write3 write16 block2 access
+frames = record { bare = refl; broken = refl; wrong = refl; pending = refl; held = refl; error = refl; whole = refl }
 
--- 12 before 9, and 6 before 5
-pub broken-first : between cover.Nothing .number ≡ 12 → ⊥
-broken-first e = let z : _≡_ {A = ℕ} 9 12 = sym (frames .bare) ∙ e in omega arith
+-- 12 for broken halves, and 14 for a wrong password
+pub broken-as-wrong : between (cover.Number 0x5A5A) .number ≡ 12 → ⊥
+broken-as-wrong e = let z : _≡_ {A = ℕ} 14 12 = sym (frames .broken) ∙ e in omega arith
+
+pub wrong-as-broken : mistyped .number ≡ 14 → ⊥
+wrong-as-broken e = let z : _≡_ {A = ℕ} 12 14 = sym (frames .wrong) ∙ e in omega arith
+
+-- 14 before 9, and 6 before 5
+pub broken-first : between cover.Nothing .number ≡ 14 → ⊥
+broken-first e = let z : _≡_ {A = ℕ} 9 14 = sym (frames .bare) ∙ e in omega arith
 
 pub held-first : whileHeld (pendingOne 17 1) .number ≡ 6 → ⊥
 held-first e = let z : _≡_ {A = ℕ} 5 6 = sym (frames .pending) ∙ e in omega arith

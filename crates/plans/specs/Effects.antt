@@ -85,7 +85,7 @@ abbrev pub placeOf : Layout → Span → ℕ
 placeOf y s = bankOf y (s .bank) .at + s .pointer
 
 -- a half of Kill, by the half that waits: the first has code 00h where there is no kill password; the second stores killed as 1. That the
--- second is right was asked before (`breaks`), and where a half of the other password waits the answer was 12: the last line never counts
+-- second is right was asked before (`halvesOf`), and where a half of the other password waits the answer was 14: the last line never counts
 abbrev pub halfKill : Scene → ℕ → Half → Effect
 halfKill c h half.Nothing =
     unless (cond (zeroKill (c .layout) (c .image)) (code.Error fault.Other) code.Nothing) (waits c (half.Kill (bare c h)))

@@ -23,11 +23,11 @@ use Rattle.states.specs.declared.Part.the-variants as part
 use Rattle.states.specs.declared.Who.{Who}
 use Rattle.states.specs.declared.Who.the-variants as who
 use Rattle.states.specs.declared.Asks.{Asks}
-use Rattle.states.specs.Commands.{asksOf, linkOf, wasAcknowledged, isLinked, hears, isCovered, uncovered, wrongBy, zeroAccess, breaks, withLink, halved, used, numbered}
+use Rattle.states.specs.Commands.{asksOf, linkOf, wasAcknowledged, isLinked, hears, isCovered, uncovered, wrongBy, zeroAccess, halvesRow, withLink, halved, used, numbered}
 use Rattle.states.specs.Inventory.{flagAt, withFlag, inverted, queriedFlags, matches, acknowledged, flagAfter, selectedFlags}
 use Rattle.states.specs.Steps.{gateOf, picked}
 use Rattle.states.specs.Numbers.{coveredIn, coverIn, flagsIn, halfIn, upperIn, numbersWith}
-use Rattle.states.specs.ByNumber.{hearsIn, wrongIn, breaksIn, gateIn, securedIn, usedIn, halvedIn, numberedIn, acknowledgedIn, bitFor, isSet, flagIn, invertedIn, turnedBy, selectedBy, queriedIn, meant, matchesIn, idleIn, leftIn, selectedIn}
+use Rattle.states.specs.ByNumber.{hearsIn, wrongIn, waitingRow, gateIn, securedIn, usedIn, halvedIn, numberedIn, acknowledgedIn, bitFor, isSet, flagIn, invertedIn, turnedBy, selectedBy, queriedIn, meant, matchesIn, idleIn, leftIn, selectedIn}
 
 covered-in : (c : Cover) → eqb (coveredIn c) 0 ≡ not (isCovered c)
 covered-in cover.Nothing = refl
@@ -52,21 +52,21 @@ bare-in (cover.Number n) w = refl
 
 module _ (y : Layout) (m : List ℕ) (h g : ℕ) (f : Flags) (st : State) where
   -- by the half that waits
-  broken-in : (a : Half) (p : Part) → linkOf st .half ≡ a → (not (eqb (halfIn a) 0) && breaksIn y m (numbersWith h g f st) p) ≡ breaks y m (linkOf st) a p
-  broken-in half.Nothing p e = refl
-  broken-in (half.Access up) part.Between e = rw e
-  broken-in (half.Access up) (part.Access w) e = rw (e, bare-in (linkOf st .cover) w)
-  broken-in (half.Access up) (part.Kill w) e = rw e
-  broken-in (half.Access up) (part.To n) e = rw e
-  broken-in (half.Access up) part.Other e = rw e
-  broken-in (half.Kill up) part.Between e = rw e
-  broken-in (half.Kill up) (part.Access w) e = rw e
-  broken-in (half.Kill up) (part.Kill w) e = rw (e, bare-in (linkOf st .cover) w)
-  broken-in (half.Kill up) (part.To n) e = rw e
-  broken-in (half.Kill up) part.Other e = rw e
+  halves-in : (a : Half) (p : Part) → linkOf st .half ≡ a → cond (eqb (halfIn a) 0) 0 (waitingRow y m (numbersWith h g f st) p) ≡ halvesRow y m (linkOf st) a p
+  halves-in half.Nothing p e = refl
+  halves-in (half.Access up) part.Between e = rw e
+  halves-in (half.Access up) (part.Access w) e = rw (e, bare-in (linkOf st .cover) w)
+  halves-in (half.Access up) (part.Kill w) e = rw e
+  halves-in (half.Access up) (part.To n) e = rw e
+  halves-in (half.Access up) part.Other e = rw e
+  halves-in (half.Kill up) part.Between e = rw e
+  halves-in (half.Kill up) (part.Access w) e = rw e
+  halves-in (half.Kill up) (part.Kill w) e = rw (e, bare-in (linkOf st .cover) w)
+  halves-in (half.Kill up) (part.To n) e = rw e
+  halves-in (half.Kill up) part.Other e = rw e
 
   pub gate-in : (n : ℕ) (o : Order) → gateIn y m (numbersWith h g f st) n o ≡ gateOf y m st n o
-  gate-in n o = rw (wrong-in h g f st n (asksOf o), broken-in (linkOf st .half) (asksOf o .part) refl)
+  gate-in n o = rw (wrong-in h g f st n (asksOf o), halves-in (linkOf st .half) (asksOf o .part) refl)
 
 module _ (h g : ℕ) (f : Flags) where
   pub used-in : (st : State) → usedIn (numbersWith h g f st) ≡ numbersWith h g f (used st)

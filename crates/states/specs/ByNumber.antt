@@ -72,26 +72,26 @@ bareOf v w = bitXor w (v .cover)
 abbrev pub wrongIn : Numbers → ℕ → Asks → Bool
 wrongIn v n a = not (hearsIn (a .who) v n) || (a .cover && eqb (v .covered) 0) || a .bad
 
--- answer 12 while the upper half of an Access waits, and of a Kill
-abbrev pub accessBroken : Layout → List ℕ → Numbers → Part → Bool
-accessBroken y m v part.Between = false
-accessBroken y m v (part.Access h) = not (eqb (v .upper) (accessWord y m 0) && eqb (bareOf v h) (accessWord y m 1))
-accessBroken y m v (part.Kill h) = true
-accessBroken y m v (part.To n) = eqb (v .number) n
-accessBroken y m v part.Other = true
+-- answers 12 and 14, or 0, while the upper half of an Access waits, and of a Kill
+abbrev pub accessRow : Layout → List ℕ → Numbers → Part → ℕ
+accessRow y m v part.Between = 0
+accessRow y m v (part.Access h) = cond (eqb (v .upper) (accessWord y m 0) && eqb (bareOf v h) (accessWord y m 1)) 0 12
+accessRow y m v (part.Kill h) = 14
+accessRow y m v (part.To n) = cond (eqb (v .number) n) 14 0
+accessRow y m v part.Other = 14
 
-abbrev pub killBroken : Layout → List ℕ → Numbers → Part → Bool
-killBroken y m v part.Between = false
-killBroken y m v (part.Access h) = true
-killBroken y m v (part.Kill h) = not (eqb (v .upper) (killWord y m 0) && eqb (bareOf v h) (killWord y m 1))
-killBroken y m v (part.To n) = eqb (v .number) n
-killBroken y m v part.Other = true
+abbrev pub killRow : Layout → List ℕ → Numbers → Part → ℕ
+killRow y m v part.Between = 0
+killRow y m v (part.Access h) = 14
+killRow y m v (part.Kill h) = cond (eqb (v .upper) (killWord y m 0) && eqb (bareOf v h) (killWord y m 1)) 0 12
+killRow y m v (part.To n) = cond (eqb (v .number) n) 14 0
+killRow y m v part.Other = 14
 
-abbrev pub breaksIn : Layout → List ℕ → Numbers → Part → Bool
-breaksIn y m v p = cond (eqb (v .half) 1) (accessBroken y m v p) (killBroken y m v p)
+abbrev pub waitingRow : Layout → List ℕ → Numbers → Part → ℕ
+waitingRow y m v p = cond (eqb (v .half) 1) (accessRow y m v p) (killRow y m v p)
 
 abbrev pub gateIn : Layout → List ℕ → Numbers → ℕ → Order → ℕ
-gateIn y m v n o = gateBy (wrongIn v n (asksOf o)) (not (eqb (v .half) 0) && breaksIn y m v (asksOf o .part))
+gateIn y m v n o = gateBy (wrongIn v n (asksOf o)) (cond (eqb (v .half) 0) 0 (waitingRow y m v (asksOf o .part)))
 
 -- what commands leave
 abbrev pub usedIn : Numbers → Numbers

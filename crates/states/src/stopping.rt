@@ -1,9 +1,11 @@
 // What stops an order, asked of a session's numbers (RULES 3.12 to 3.17 and 11.2 to 11.4).
 ghost use mathlib.Core.Path.{_≡_};
+ghost use mathlib.Core.Bool.{cond, _&&_};
 ghost use Prim.Native.Nat.{_≤_};
+ghost use lib.Dec.{eqb};
 ghost use lib.ListN.{length};
 ghost use Rattle.image.specs.Layout.{layoutOf};
-ghost use Rattle.states.specs.ByNumber.{past as pastOf, hearsIn, bareOf, wrongIn, accessBroken, killBroken, breaksIn, gateIn};
+ghost use Rattle.states.specs.ByNumber.{past as pastOf, hearsIn, bareOf, wrongIn, accessRow, killRow, waitingRow, gateIn};
 use crate::Asks;
 use crate::Numbers;
 use crate::Part;
@@ -55,51 +57,71 @@ fn is_wrong(v: Numbers, n: u16, a: Asks) -> bool
     either(either(!hears(who, v, n), bare), a.bad)
 }
 
-// Answer 12 while the upper half of an Access waits.
-fn breaks_access(image: &[u8], y: Layout, v: Numbers, part: Part) -> bool
-    ensures { λ r. ⌜ r ≡ accessBroken y (now (image .entry)) v part ⌝ }
+// Answer 12, or 0: whether the two halves make the password.
+fn second_half(upper: bool, lower: bool) -> u8
+    ensures { λ r. ⌜ r ≡ cond (upper && lower) 0 12 ⌝ }
+{
+    if both(upper, lower) {
+        return 0;
+    }
+    12
+}
+
+// An ACK between the halves breaks them where its number is the handle. Of a frame it is asked in `tag`, by numbers alone.
+fn ack_row(v: Numbers, n: u16) -> u8
+    ensures { λ r. ⌜ r ≡ cond (eqb (v .number) n) 14 0 ⌝ }
+{
+    if v.number == n {
+        return 14;
+    }
+    0
+}
+
+// Answer 12 or 14, or 0, while the upper half of an Access waits.
+fn access_row(image: &[u8], y: Layout, v: Numbers, part: Part) -> u8
+    ensures { λ r. ⌜ r ≡ accessRow y (now (image .entry)) v part ⌝ }
 {
     match part {
-        Part::Between => false,
+        Part::Between => 0,
         Part::Access(h) => {
             let low = uncovered(v, h) == access_word(image, y, 1);
-            !both(v.upper == access_word(image, y, 0), low)
+            second_half(v.upper == access_word(image, y, 0), low)
         }
-        Part::Kill(_) => true,
-        Part::To(n) => v.number == n,
-        Part::Other => true,
+        Part::Kill(_) => 14,
+        Part::To(n) => ack_row(v, n),
+        Part::Other => 14,
     }
 }
 
-// Answer 12 while the upper half of a Kill waits.
-fn breaks_kill(image: &[u8], y: Layout, v: Numbers, part: Part) -> bool
-    ensures { λ r. ⌜ r ≡ killBroken y (now (image .entry)) v part ⌝ }
+// The same while the upper half of a Kill waits.
+fn kill_row(image: &[u8], y: Layout, v: Numbers, part: Part) -> u8
+    ensures { λ r. ⌜ r ≡ killRow y (now (image .entry)) v part ⌝ }
 {
     match part {
-        Part::Between => false,
-        Part::Access(_) => true,
+        Part::Between => 0,
+        Part::Access(_) => 14,
         Part::Kill(h) => {
             let low = uncovered(v, h) == kill_word(image, y, 1);
-            !both(v.upper == kill_word(image, y, 0), low)
+            second_half(v.upper == kill_word(image, y, 0), low)
         }
-        Part::To(n) => v.number == n,
-        Part::Other => true,
+        Part::To(n) => ack_row(v, n),
+        Part::Other => 14,
     }
 }
 
-// Answer 12: the lower half makes a wrong password, or another command comes between the halves.
-fn breaks(image: &[u8], v: Numbers, part: Part) -> bool
+// Answer 12, a wrong password, or 14, broken halves, or 0, while an upper half waits.
+fn halves_row(image: &[u8], v: Numbers, part: Part) -> u8
     requires { ⌜ 32 ≤ length (now image) ⌝ }
-    ensures { λ r. ⌜ r ≡ breaksIn (layoutOf (now (image .entry))) (now (image .entry)) v part ⌝ }
+    ensures { λ r. ⌜ r ≡ waitingRow (layoutOf (now (image .entry))) (now (image .entry)) v part ⌝ }
 {
     let y = image::read_layout(image);
     if v.half == 1 {
-        return breaks_access(image, y, v, part);
+        return access_row(image, y, v, part);
     }
-    breaks_kill(image, y, v, part)
+    kill_row(image, y, v, part)
 }
 
-// Answer 9 or 12, or 0, for any order.
+// Answer 9, 12 or 14, or 0, for any order.
 pub fn gate(v: Numbers, n: u16, image: &[u8], order: Order) -> u8
     requires { ⌜ 32 ≤ length (now image) ⌝ }
     ensures { λ r. ⌜ r ≡ gateIn (layoutOf (now (image .entry))) (now (image .entry)) v n order ⌝ }
@@ -112,8 +134,5 @@ pub fn gate(v: Numbers, n: u16, image: &[u8], order: Order) -> u8
         return 0;
     }
     let part = a.part;
-    if breaks(image, v, part) {
-        return 12;
-    }
-    0
+    halves_row(image, v, part)
 }

@@ -1,8 +1,10 @@
 -- What the code makes of a session's numbers is what the table makes of the session. Assumes nothing.
 use Prim.Native.Nat.{ℕ, _+_, _-_, _*_}
 use mathlib.Core.Path.{_≡_, refl, sym, ap, _∙_}
-use mathlib.Core.Bool.{true≢false, Bool, true, false, cond, not, _&&_, _||_}
+use mathlib.Core.Bool.{Bool, true, false, cond, not, _&&_, _||_}
 use mathlib.Core.List.{List, [], _∷_}
+use mathlib.Core.Logic.{inl, inr}
+use native.Mathlib.Omega.{arith}
 use lib.Dec.{eqb, ltb}
 use lib.ListN.{length, take}
 use Rattle.bits.specs.Words.{Store, store, after}
@@ -38,27 +40,26 @@ use Rattle.states.specs.declared.Numbers.{Numbers}
 use Rattle.states.specs.declared.Part.the-variants as part
 use Rattle.states.specs.declared.State.{State}
 use Rattle.states.specs.declared.State.the-variants as state
-use Rattle.states.specs.Commands.{asksOf, badChoice, badUpDn, linkOf, slotOf, inRound, hasReplied, wasAcknowledged, isSecured, isLinked, isKilled, isCovered, uncovered, wrongBy, zeroKill, breaks, withLink, used, halved, fallen, numbered}
+use Rattle.states.specs.Commands.{asksOf, badChoice, badUpDn, linkOf, slotOf, inRound, hasReplied, wasAcknowledged, isSecured, isLinked, isKilled, isCovered, uncovered, wrongBy, zeroKill, halvesRow, halvesOf, withLink, used, halved, fallen, numbered}
 use Rattle.states.specs.Inventory.{inverted, drawn, slotFrom, queriedFlags, matches, adjustedQ, countedDown, acknowledged, selects, selectedFlags}
 use Rattle.states.specs.Numbers.{halfIn, upperIn, flagsIn}
 use Rattle.states.specs.Steps.{gateBy, wrongCommand}
 use Rattle.states.specs.ByNumber.{bareTo, bareOf, usedIn, halvedIn, fallenIn, acknowledgedIn, idleIn, leftIn, matchesIn, slotOut, selectedIn}
-use Rattle.states.proofs.Gates.{Named, passes-heard, passes-handle}
+use Rattle.states.proofs.Gates.{Named, passes-heard, passes-handle, Three, halves-three}
 use Rattle.states.proofs.ByNumber.{gate-in, bare-in, used-in, halved-in, secured-in, numbered-in, acknowledged-in, left-in, selected-in, queried-in, matches-in}
 use Rattle.plans.specs.declared.Plan.{Plan}
 use Rattle.plans.specs.declared.Plan.the-variants as plan
 use Rattle.plans.specs.Effects.{Effect, drawnReply, turns, does, halfKill, halfAccess}
 use Rattle.plans.specs.Steps.{orError, writePlan, planOf}
-use Rattle.tag.specs.declared.Answer.the-variants as answer
 use Rattle.tag.specs.declared.Live.{Live}
 use Rattle.tag.specs.declared.Session.{Session}
 use Rattle.tag.specs.Session.{offSession}
-use Rattle.tag.specs.Result.{Left, Result, result}
+use Rattle.tag.specs.Result.{Left, Result}
 use Rattle.tag.specs.Port.{bitOf, numberIn}
 use Rattle.tag.specs.Table.{fits, turnedTo, movedTo}
 use Rattle.tag.specs.Records.{blank, numbersOn, numbersOf, inNumbers}
-use Rattle.tag.specs.Steps.{stays, tells, errorBy, doneBy, onSession, kept, errorEnd, doneEnd, endBy, sceneOf, droppedWith, orderOf, commandOf, heardBy}
-use Rattle.tag.specs.ByNumber.{doneAt, droppedAt, errorAt, tellAt, storeAt, drawnAt, repAt, adjustAt, queryAt, ackAt, selectAt, callingAt, CallPlaced, performAt, commandAt}
+use Rattle.tag.specs.Steps.{stays, tells, errorBy, doneBy, onSession, kept, errorEnd, doneEnd, endBy, sceneOf, halvesBy, orderOf, commandOf, heardBy}
+use Rattle.tag.specs.ByNumber.{doneAt, droppedAt, errorAt, tellAt, storeAt, drawnAt, repAt, adjustAt, queryAt, ackAt, selectAt, callingAt, CallPlaced, performAt, gatedAt, commandAt}
 use Rattle.tag.proofs.Plans.{tell-any, silent-end}
 
 -- an end over sessions is the same end over their numbers
@@ -125,18 +126,18 @@ module _ (l : Live) (m room : List ℕ) (w s : ℕ) where
 
 -- orders of inventory
 module _ (l : Live) (y : Layout) (m f : List ℕ) (fresh : ℕ) (room : List ℕ) (s : ℕ) where
-  between : (k : Link) (a : Half) → breaks y m k a part.Between ≡ false
+  between : (k : Link) (a : Half) → halvesRow y m k a part.Between ≡ 0
   between k half.Nothing = refl
   between k (half.Access up) = refl
   between k (half.Kill up) = refl
 
-  -- a command, by whether it breaks the halves
-  by-halves : (c : Command) (t : Bool) → breaks y m (linkOf (l .state)) (linkOf (l .state) .half) (asksOf (c .order) .part) ≡ t
+  -- a command, by what its halves say
+  by-halves : (c : Command) (t : ℕ) → halvesOf y m (l .state) (c .order) ≡ t
       → inNumbers (commandOf l y m f fresh room s c)
-      ≡ inNumbers (cond (wrongCommand (l .state) c) (kept 9 l m room) (cond t (result (droppedWith l answer.Password) m room) (orderOf l y m f fresh room s (c .order))))
+      ≡ inNumbers (cond (wrongCommand (l .state) c) (kept 9 l m room) (halvesBy t l m room (orderOf l y m f fresh room s (c .order))))
   unfolding commandOf
   by-halves c t e =
-      ap (λ (b : Bool). inNumbers (cond (wrongCommand (l .state) c) (kept 9 l m room) (cond b (result (droppedWith l answer.Password) m room) (orderOf l y m f fresh room s (c .order))))) e
+      ap (λ (n : ℕ). inNumbers (cond (wrongCommand (l .state) c) (kept 9 l m room) (halvesBy n l m room (orderOf l y m f fresh room s (c .order))))) e
 
   -- what wrongBy says of an order that needs no cover, by whether the tag hears it and what it brings is bad
   abbrev wrongIf : Bool → Bool → Bool
@@ -154,7 +155,7 @@ module _ (l : Live) (y : Layout) (m f : List ℕ) (fresh : ℕ) (room : List ℕ
   unfolding repAt
   rep-by k =
       go (inRound (l .state) && eqb (linkOf (l .state) .round .session) k) (wasAcknowledged (l .state))
-      ∙ sym (by-halves (toAll (order.QueryRep k)) false (between (linkOf (l .state)) (linkOf (l .state) .half)))
+      ∙ sym (by-halves (toAll (order.QueryRep k)) 0 (between (linkOf (l .state)) (linkOf (l .state) .half)))
     where
       go : (b c : Bool)
           → cond (not b) (stays 9 (numbersOn l) m room)
@@ -172,7 +173,7 @@ module _ (l : Live) (y : Layout) (m f : List ℕ) (fresh : ℕ) (room : List ℕ
   unfolding adjustAt
   adjust-by k u =
       go (inRound (l .state) && eqb (linkOf (l .state) .round .session) k) (badUpDn u) (wasAcknowledged (l .state))
-      ∙ sym (by-halves (toAll (order.QueryAdjust k u)) false (between (linkOf (l .state)) (linkOf (l .state) .half)))
+      ∙ sym (by-halves (toAll (order.QueryAdjust k u)) 0 (between (linkOf (l .state)) (linkOf (l .state) .half)))
     where
       q : Round
       q = record { session = linkOf (l .state) .round .session; q = adjustedQ u (linkOf (l .state) .round .q) }
@@ -196,7 +197,7 @@ module _ (l : Live) (y : Layout) (m f : List ℕ) (fresh : ℕ) (room : List ℕ
       ap (λ (x : ℕ). by x (matchesIn x sel t (q .session))) (queried-in (bitOf (l .held)) (numberIn (l .register)) (l .flags) (l .state) (q .session))
       ∙ ap (by (flagsIn after-first)) (matches-in after-first sel t (q .session))
       ∙ go (isKilled (l .state)) (matches after-first sel t (q .session))
-      ∙ sym (by-halves (toAll (order.Query sel t q)) false (between (linkOf (l .state)) (linkOf (l .state) .half)))
+      ∙ sym (by-halves (toAll (order.Query sel t q)) 0 (between (linkOf (l .state)) (linkOf (l .state) .half)))
     where
       after-first : Flags
       after-first = queriedFlags (l .flags) (l .state) (q .session)
@@ -217,7 +218,7 @@ module _ (l : Live) (y : Layout) (m f : List ℕ) (fresh : ℕ) (room : List ℕ
 
   select-by : (c : Choice) (p : ℕ) → selectAt y (numbersOn l) c p m f room ≡ inNumbers (commandOf l y m f fresh room s (toAll (order.Select c p)))
   unfolding selectAt
-  select-by c p = go (isKilled (l .state)) (badChoice c) ∙ sym (by-halves (toAll (order.Select c p)) false (between (linkOf (l .state)) (linkOf (l .state) .half)))
+  select-by c p = go (isKilled (l .state)) (badChoice c) ∙ sym (by-halves (toAll (order.Select c p)) 0 (between (linkOf (l .state)) (linkOf (l .state) .half)))
     where
       match : Bool
       match = selects y m f (c .bits) p
@@ -231,16 +232,16 @@ module _ (l : Live) (y : Layout) (m f : List ℕ) (fresh : ℕ) (room : List ℕ
           ap (λ (v : Numbers). doneAt v 0 0 m room) (selected-in (bitOf (l .held)) (numberIn (l .register)) (l .flags) (l .state) c match)
           ∙ silent l m room (y .work .at) s (turnedTo l (selectedFlags (l .flags) c match) state.Ready)
 
-  breaks-to : (n : ℕ) (k : Link) (a : Half) → breaks y m k a (part.To n) ≡ (not (eqb (halfIn a) 0) && eqb (k .handle) n)
-  breaks-to n k half.Nothing = refl
-  breaks-to n k (half.Access up) = refl
-  breaks-to n k (half.Kill up) = refl
+  halves-to : (n : ℕ) (k : Link) (a : Half) → halvesRow y m k a (part.To n) ≡ cond (not (eqb (halfIn a) 0) && eqb (k .handle) n) 14 0
+  halves-to n k half.Nothing = refl
+  halves-to n k (half.Access up) = refl
+  halves-to n k (half.Kill up) = refl
 
   ack-by : (n : ℕ) → ackAt y (numbersOn l) n m room ≡ inNumbers (commandOf l y m f fresh room s (toAll (order.Ack n)))
   unfolding ackAt
   ack-by n =
       go (hasReplied (l .state)) (eqb (linkOf (l .state) .handle) n) (eqb (halfIn (linkOf (l .state) .half)) 0)
-      ∙ sym (by-halves (toAll (order.Ack n)) _ (breaks-to n (linkOf (l .state)) (linkOf (l .state) .half)))
+      ∙ sym (by-halves (toAll (order.Ack n)) _ (halves-to n (linkOf (l .state)) (linkOf (l .state) .half)))
     where
       epc : Reply
       epc = reply.Epc (y .epc .at + 1) (lengthOf (pcWord y m) + 1)
@@ -250,11 +251,11 @@ module _ (l : Live) (y : Layout) (m f : List ℕ) (fresh : ℕ) (room : List ℕ
 
       go : (b e z : Bool)
           → cond (not b) (stays 9 (numbersOn l) m room)
-          (cond e (cond z (tellAt (numbersOn l) m room epc (acknowledgedIn (numbersOn l))) (droppedAt 12 (numbersOn l) m room))
+          (cond e (cond z (tellAt (numbersOn l) m room epc (acknowledgedIn (numbersOn l))) (droppedAt 14 (numbersOn l) m room))
           (doneAt (fallenIn (numbersOn l)) 0 0 m room))
           ≡ inNumbers
           (cond (wrongIf b false) (kept 9 l m room)
-          (cond (not z && e) (result (droppedWith l answer.Password) m room) (endBy (effect e .code) l (y .work .at) m room s (effect e))))
+          (halvesBy (cond (not z && e) 14 0) l m room (endBy (effect e .code) l (y .work .at) m room s (effect e))))
       go false e z = refl
       go true true true =
           ap (tellAt (numbersOn l) m room epc) (acknowledged-in (bitOf (l .held)) (numberIn (l .register)) (l .flags) (l .state))
@@ -324,7 +325,7 @@ module _ (l : Live) (y : Layout) (m f : List ℕ) (fresh : ℕ) (room : List ℕ
       ∙ told l m room (y .work .at) s (reply.Number handle) (movedTo l (withLink (l .state) (halved (linkOf (l .state)) a)))
 
   -- a half of Kill and of Access, by the half that waits
-  kill-by : (h : ℕ) (a : Half) → isLinked (l .state) ≡ true → breaks y m (linkOf (l .state)) a (part.Kill h) ≡ false
+  kill-by : (h : ℕ) (a : Half) → isLinked (l .state) ≡ true → halvesRow y m (linkOf (l .state)) a (part.Kill h) ≡ 0
       → performs (cond (eqb (halfIn a) 0) (cond (zeroKill y m) (plan.Error fault.Other) (plan.Half 2 (bareOf (numbersOn l) h))) (plan.Kill 1 (y .status .at + 1)))
       ≡ ends (halfKill (sceneOf l y m f fresh) h a)
   kill-by h half.Nothing e b = go (zeroKill y m)
@@ -335,11 +336,11 @@ module _ (l : Live) (y : Layout) (m f : List ℕ) (fresh : ℕ) (room : List ℕ
       go false =
           ap (λ (u : ℕ). tellAt (numbersOn l) m room (reply.Number handle) (halvedIn (numbersOn l) 2 u)) (bare-in (linkOf (l .state) .cover) h)
           ∙ half-by (half.Kill (uncovered (linkOf (l .state) .cover) h)) e
-  kill-by h (half.Access up) e b = absurd (true≢false b)
+  kill-by h (half.Access up) e b = absurd (omega (arith, b))
   kill-by h (half.Kill up) e b =
       sym (ends-in m room (onSession l) (movedTo l state.Killed) (y .work .at) s (reply.Success handle) (store (y .status .at + 1) 1 ∷ []))
 
-  access-by : (h : ℕ) (a : Half) → isLinked (l .state) ≡ true → breaks y m (linkOf (l .state)) a (part.Access h) ≡ false
+  access-by : (h : ℕ) (a : Half) → isLinked (l .state) ≡ true → halvesRow y m (linkOf (l .state)) a (part.Access h) ≡ 0
       → performs (cond (eqb (halfIn a) 0) (plan.Half 1 (bareOf (numbersOn l) h)) plan.Secure) ≡ ends (halfAccess (sceneOf l y m f fresh) h a)
   access-by h half.Nothing e b =
       ap (λ (u : ℕ). tellAt (numbersOn l) m room (reply.Number handle) (halvedIn (numbersOn l) 1 u)) (bare-in (linkOf (l .state) .cover) h)
@@ -347,9 +348,9 @@ module _ (l : Live) (y : Layout) (m f : List ℕ) (fresh : ℕ) (room : List ℕ
   access-by h (half.Access up) e b =
       ap (tellAt (numbersOn l) m room (reply.Number handle)) (secured-in (bitOf (l .held)) (numberIn (l .register)) (l .flags) (l .state) e)
       ∙ told l m room (y .work .at) s (reply.Number handle) (movedTo l (state.Secured (halved (linkOf (l .state)) half.Nothing)))
-  access-by h (half.Kill up) e b = absurd (true≢false b)
+  access-by h (half.Kill up) e b = absurd (omega (arith, b))
 
-  order-by : (o : Order) → ToOne o → wrongBy (l .state) handle (asksOf o) ≡ false → breaks y m (linkOf (l .state)) (linkOf (l .state) .half) (asksOf o .part) ≡ false
+  order-by : (o : Order) → ToOne o → wrongBy (l .state) handle (asksOf o) ≡ false → halvesOf y m (l .state) o ≡ 0
       → performs (planOf y m f (numbersOn l) o) ≡ inNumbers (orderOf l y m f fresh room s o)
   order-by (order.QueryRep k) u w b = absurd u
   order-by (order.Ack n) u w b = absurd u
@@ -374,14 +375,14 @@ module _ (l : Live) (y : Layout) (m f : List ℕ) (fresh : ℕ) (room : List ℕ
   order-by (order.Permalock r p x) u w b = code-by (permaCode y m p f x) _ _ (store-by _)
 
   -- a number that passes is the handle
-  by-handle : (n : ℕ) (o : Order) → ToOne o → wrongBy (l .state) n (asksOf o) ≡ false → breaks y m (linkOf (l .state)) (linkOf (l .state) .half) (asksOf o .part) ≡ false → Named (asksOf o .who)
+  by-handle : (n : ℕ) (o : Order) → ToOne o → wrongBy (l .state) n (asksOf o) ≡ false → halvesOf y m (l .state) o ≡ 0 → Named (asksOf o .who)
       → performAt (numbersOn l) n y m f fresh room s (planOf y m f (numbersOn l) o) ≡ inNumbers (orderOf l y m f fresh room s o)
   by-handle n o u w b named =
       let e = passes-handle (l .state) (asksOf o) n w named in
       ap (λ (k : ℕ). performAt (numbersOn l) k y m f fresh room s (planOf y m f (numbersOn l) o)) e
       ∙ order-by o u (ap (λ (k : ℕ). wrongBy (l .state) k (asksOf o)) (sym e) ∙ w) b
 
-  passed-by : (n : ℕ) (o : Order) → ToOne o → wrongBy (l .state) n (asksOf o) ≡ false → breaks y m (linkOf (l .state)) (linkOf (l .state) .half) (asksOf o .part) ≡ false
+  passed-by : (n : ℕ) (o : Order) → ToOne o → wrongBy (l .state) n (asksOf o) ≡ false → halvesOf y m (l .state) o ≡ 0
       → performAt (numbersOn l) n y m f fresh room s (planOf y m f (numbersOn l) o) ≡ inNumbers (orderOf l y m f fresh room s o)
   passed-by n (order.QueryRep k) u w b = absurd u
   passed-by n (order.Ack k) u w b = absurd u
@@ -404,15 +405,23 @@ module _ (l : Live) (y : Layout) (m f : List ℕ) (fresh : ℕ) (room : List ℕ
   unfolding commandAt commandOf
   command-by c u =
       ap by (gate-in y m (bitOf (l .held)) (numberIn (l .register)) (l .flags) (l .state) (c .number) (c .order))
-      ∙ go (wrongBy (l .state) (c .number) (asksOf (c .order))) (breaks y m (linkOf (l .state)) (linkOf (l .state) .half) (asksOf (c .order) .part)) refl refl
+      ∙ go (wrongBy (l .state) (c .number) (asksOf (c .order))) refl
     where
       by : ℕ → Left Numbers
-      by g =
-          cond (eqb g 9) (stays 9 (numbersOn l) m room)
-          (cond (eqb g 0) (performAt (numbersOn l) (c .number) y m f fresh room s (planOf y m f (numbersOn l) (c .order))) (droppedAt 12 (numbersOn l) m room))
+      by g = cond (eqb g 0) (performAt (numbersOn l) (c .number) y m f fresh room s (planOf y m f (numbersOn l) (c .order))) (gatedAt g (numbersOn l) m room)
 
-      go : (a b : Bool) → wrongBy (l .state) (c .number) (asksOf (c .order)) ≡ a → breaks y m (linkOf (l .state)) (linkOf (l .state) .half) (asksOf (c .order) .part) ≡ b
-          → by (gateBy a b) ≡ inNumbers (cond a (kept 9 l m room) (cond b (result (droppedWith l answer.Password) m room) (orderOf l y m f fresh room s (c .order))))
-      go true b p q = refl
-      go false true p q = refl
-      go false false p q = passed-by (c .number) (c .order) u p q
+      says : ℕ
+      says = halvesOf y m (l .state) (c .order)
+
+      leaves : ℕ → Left Numbers
+      leaves n = inNumbers (halvesBy n l m room (orderOf l y m f fresh room s (c .order)))
+
+      passed : wrongBy (l .state) (c .number) (asksOf (c .order)) ≡ false → Three says → by says ≡ leaves says
+      passed w (inl h) = ap by h ∙ passed-by (c .number) (c .order) u w h ∙ sym (ap leaves h)
+      passed w (inr (inl h)) = ap by h ∙ sym (ap leaves h)
+      passed w (inr (inr h)) = ap by h ∙ sym (ap leaves h)
+
+      go : (a : Bool) → wrongBy (l .state) (c .number) (asksOf (c .order)) ≡ a
+          → by (gateBy a says) ≡ inNumbers (cond a (kept 9 l m room) (halvesBy says l m room (orderOf l y m f fresh room s (c .order))))
+      go true p = refl
+      go false p = passed p (halves-three y m (linkOf (l .state)) (linkOf (l .state) .half) (asksOf (c .order) .part))

@@ -121,7 +121,7 @@ passed-good {p} {m} {port} h = row-0 m (rw (h .long, h .header, h .content))
 pub passed-on : {m : List ℕ} {port : Bool} → Passed power.Off m port → ⊥
 passed-on h = true≢false (h .ready)
 
--- a number of the table that is none of 0 to 12
+-- a number up to 13 that is none of 0 to 12
 other : (k n : ℕ) → k ≤ n → (n ≡ k → ⊥) → k < n
 other k n h z = omega (arith, z)
 

@@ -16,7 +16,7 @@ use Rattle.states.specs.Inventory.{adjustedQ, countedDown, selects}
 use Rattle.states.specs.ByNumber.{past, fallenIn, acknowledgedIn, idleIn, leftIn, queriedIn, matchesIn, slotOut, selectedIn, gateIn}
 use Rattle.tag.specs.Result.{Left}
 use Rattle.tag.specs.Steps.{stays}
-use Rattle.tag.specs.ByNumber.{doneAt, droppedAt, tellAt, drawnAt, repAt, adjustAt, queryAt, ackAt, selectAt, performAt, commandAt}
+use Rattle.tag.specs.ByNumber.{doneAt, droppedAt, tellAt, drawnAt, repAt, adjustAt, queryAt, ackAt, selectAt, performAt, gatedAt, commandAt}
 
 module _ (v : Numbers) (fresh : ℕ) (m room : List ℕ) where
   pub rep-way : (k : ℕ) (a b : Bool) → (past v 1 && eqb (v .round) k) ≡ a → past v 3 ≡ b
@@ -63,7 +63,7 @@ module _ (y : Layout) (v : Numbers) (m room : List ℕ) where
   pub ack-way : (n : ℕ) (a b c : Bool) → past v 2 ≡ a → eqb (v .number) n ≡ b → eqb (v .half) 0 ≡ c
       → cond (not a) (stays 9 v m room)
       (cond b
-      (cond c (tellAt v m room (reply.Epc (y .epc .at + 1) (lengthOf (pcWord y m) + 1)) (acknowledgedIn v)) (droppedAt 12 v m room))
+      (cond c (tellAt v m room (reply.Epc (y .epc .at + 1) (lengthOf (pcWord y m) + 1)) (acknowledgedIn v)) (droppedAt 14 v m room))
       (doneAt (fallenIn v) 0 0 m room))
       ≡ ackAt y v n m room
   unfolding ackAt
@@ -73,7 +73,7 @@ module _ (y : Layout) (v : Numbers) (m room : List ℕ) where
       by x z w =
           cond (not x) (stays 9 v m room)
           (cond z
-          (cond w (tellAt v m room (reply.Epc (y .epc .at + 1) (lengthOf (pcWord y m) + 1)) (acknowledgedIn v)) (droppedAt 12 v m room))
+          (cond w (tellAt v m room (reply.Epc (y .epc .at + 1) (lengthOf (pcWord y m) + 1)) (acknowledgedIn v)) (droppedAt 14 v m room))
           (doneAt (fallenIn v) 0 0 m room))
 
   pub select-way : (x : Choice) (p : ℕ) (f : List ℕ) (a b : Bool) → eqb (v .state) 7 ≡ a → badChoice x ≡ b
@@ -86,12 +86,10 @@ module _ (y : Layout) (v : Numbers) (m room : List ℕ) where
       by z w = cond z (stays 9 v m room) (cond w (stays 9 v m room) (doneAt (selectedIn v x (selects y m f (x .bits) p)) 0 0 m room))
 
   pub command-way : (f : List ℕ) (fresh s : ℕ) (c : Command) {g : ℕ} → g ≡ gateIn y m v (c .number) (c .order)
-      → cond (eqb g 9) (stays 9 v m room)
-      (cond (eqb g 0) (performAt v (c .number) y m f fresh room s (planOf y m f v (c .order))) (droppedAt 12 v m room))
+      → cond (eqb g 0) (performAt v (c .number) y m f fresh room s (planOf y m f v (c .order))) (gatedAt g v m room)
       ≡ commandAt y v m f fresh room s c
   unfolding commandAt
   command-way f fresh s c e =
       ap
-      (λ (g : ℕ). cond (eqb g 9) (stays 9 v m room)
-      (cond (eqb g 0) (performAt v (c .number) y m f fresh room s (planOf y m f v (c .order))) (droppedAt 12 v m room)))
+      (λ (g : ℕ). cond (eqb g 0) (performAt v (c .number) y m f fresh room s (planOf y m f v (c .order))) (gatedAt g v m room))
       e

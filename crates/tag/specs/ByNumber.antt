@@ -100,7 +100,7 @@ unfoldable pub ackAt : Layout → Numbers → ℕ → List ℕ → List ℕ → 
 ackAt y v n m room =
     cond (not (past v 2)) (stays 9 v m room)
     (cond (eqb (v .number) n)
-    (cond (eqb (v .half) 0) (tellAt v m room (reply.Epc (y .epc .at + 1) (lengthOf (pcWord y m) + 1)) (acknowledgedIn v)) (droppedAt 12 v m room))
+    (cond (eqb (v .half) 0) (tellAt v m room (reply.Epc (y .epc .at + 1) (lengthOf (pcWord y m) + 1)) (acknowledgedIn v)) (droppedAt 14 v m room))
     (doneAt (fallenIn v) 0 0 m room))
 
 unfoldable pub selectAt : Layout → Numbers → Choice → ℕ → List ℕ → List ℕ → List ℕ → Left Numbers
@@ -157,12 +157,15 @@ performAt v h y m f fresh room s (plan.Bits at n p) = storeAt v h (usedIn v) (y 
 performAt v h y m f fresh room s (plan.Zeros at n) = storeAt v h (usedIn v) (y .work .at) m room s (below (λ j. store (at + j) 0) n)
 performAt v h y m f fresh room s (plan.Mask at n p) = storeAt v h (usedIn v) (y .work .at) m room s (below (orTo m f at p) n)
 
+-- a command that the gate stops with this number
+abbrev pub gatedAt : ℕ → Numbers → List ℕ → List ℕ → Left Numbers
+gatedAt g v m room = cond (eqb g 9) (stays 9 v m room) (cond (eqb g 12) (droppedAt 12 v m room) (droppedAt 14 v m room))
+
 -- any other command whose frame is whole
 unfoldable pub commandAt : Layout → Numbers → List ℕ → List ℕ → ℕ → List ℕ → ℕ → Command → Left Numbers
 commandAt y v m f fresh room s c =
     let g = gateIn y m v (c .number) (c .order) in
-    cond (eqb g 9) (stays 9 v m room)
-    (cond (eqb g 0) (performAt v (c .number) y m f fresh room s (planOf y m f v (c .order))) (droppedAt 12 v m room))
+    cond (eqb g 0) (performAt v (c .number) y m f fresh room s (planOf y m f v (c .order))) (gatedAt g v m room)
 
 -- the session under power that a record's numbers are those of
 abbrev pub liveAt : Numbers → Live

@@ -23,7 +23,8 @@ answerAt n =
     (cond (eqb n 7) answer.Malformed
     (cond (eqb n 8) answer.Checksum
     (cond (eqb n 9) answer.Wrong
-    (cond (eqb n 10) answer.Error (cond (eqb n 11) answer.PowerLost (cond (eqb n 12) answer.Password answer.Count))))))))))))
+    (cond (eqb n 10) answer.Error
+    (cond (eqb n 11) answer.PowerLost (cond (eqb n 12) answer.Password (cond (eqb n 13) answer.Count answer.Halves)))))))))))))
 
 again : (a : Answer) → answerAt (numberOf a) ≡ a
 unfolding answerAt
@@ -41,6 +42,7 @@ again answer.Error = refl
 again answer.PowerLost = refl
 again answer.Password = refl
 again answer.Count = refl
+again answer.Halves = refl
 
 pub one-answer : (a b : Answer) → numberOf a ≡ numberOf b → a ≡ b
 one-answer a b e = sym (again a) ∙ ap answerAt e ∙ again b

@@ -43,3 +43,4 @@ numberOf answer.Error = 10
 numberOf answer.PowerLost = 11
 numberOf answer.Password = 12
 numberOf answer.Count = 13
+numberOf answer.Halves = 14

@@ -32,7 +32,7 @@ use Rattle.tag.specs.declared.Answer.the-variants as answer
 use Rattle.tag.specs.declared.Outcome.{Outcome}
 use Rattle.tag.specs.Session.{offSession, newSession}
 use Rattle.tag.specs.Result.{Left, Result, leaves, lost, result}
-use Rattle.states.specs.Commands.{asksOf, linkOf, breaks, used, fallen}
+use Rattle.states.specs.Commands.{linkOf, halvesOf, used, fallen}
 use Rattle.states.specs.Steps.{wrongCommand}
 use Rattle.plans.specs.Effects.{Scene, Effect, effectOf}
 use Rattle.tag.specs.Table.{Input, fits, turnedTo, movedTo}
@@ -136,13 +136,17 @@ orderOf l y m f fresh room s o = let x = effectOf (sceneOf l y m f fresh) o in e
 abbrev pub droppedWith : Live → Answer → Outcome
 droppedWith l a = record { answer = a; session = movedTo l (fallen (l .state)); reply = 0; stores = 0; value = 0 }
 
+-- by the number that its halves say: a wrong password, broken halves, or what the order leaves
+abbrev pub halvesBy : ℕ → Live → List ℕ → List ℕ → Result → Result
+halvesBy n l m room x =
+    cond (eqb n 12) (result (droppedWith l answer.Password) m room)
+    (cond (eqb n 14) (result (droppedWith l answer.Halves) m room) x)
+
 -- a command whose frame is whole
 unfoldable pub commandOf : Live → Layout → List ℕ → List ℕ → ℕ → List ℕ → ℕ → Command → Result
 commandOf l y m f fresh room s c =
-    let k = linkOf (l .state) in
     cond (wrongCommand (l .state) c) (kept 9 l m room)
-    (cond (breaks y m k (k .half) (asksOf (c .order) .part)) (result (droppedWith l answer.Password) m room)
-    (orderOf l y m f fresh room s (c .order)))
+    (halvesBy (halvesOf y m (l .state) (c .order)) l m room (orderOf l y m f fresh room s (c .order)))
 
 -- done, with the session, the reply's length, the stores made and the register as it was read
 abbrev pub doneWith : Session → ℕ → ℕ → ℕ → Outcome

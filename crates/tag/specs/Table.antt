@@ -29,7 +29,7 @@ use Rattle.tag.specs.declared.Power.the-variants as power
 use Rattle.tag.specs.declared.Session.{Session}
 use Rattle.tag.specs.Session.{on, newFlags, clear}
 use Rattle.tag.specs.Result.{Result, leaves, replying, storing, lost, Answers}
-use Rattle.states.specs.Commands.{asksOf, linkOf, wrongBy, breaks, used, fallen}
+use Rattle.states.specs.Commands.{asksOf, linkOf, wrongBy, halvesOf, used, fallen}
 use Rattle.plans.specs.Effects.{Scene, Effect, effectOf}
 
 -- what a frame call is handed
@@ -73,8 +73,15 @@ commandIn (heard.said c) = c
 abbrev pub command : Input → Command
 command i = commandIn (heardOf (i .frame) (i .bits))
 
-abbrev pub broken : Input → Bool
-broken i = let k = linkOf (stateOf i) in breaks (layout i) (i .image) k (k .half) (asksOf (command i .order) .part)
+-- 12 a wrong password, 14 broken halves, 0 neither
+abbrev pub halves : Input → ℕ
+halves i = halvesOf (layout i) (i .image) (stateOf i) (command i .order)
+
+abbrev pub wrongPassword : Input → Bool
+wrongPassword i = eqb (halves i) 12
+
+abbrev pub brokenHalves : Input → Bool
+brokenHalves i = eqb (halves i) 14
 
 -- what the command comes to
 abbrev pub scene : Input → Scene
@@ -139,7 +146,8 @@ module _ (change : ℕ → List Store → List Store) where
             ++ (everything i 7, refusedBy 7 (heardOf (i .frame) (i .bits)))
             ∷ (everything i 8, refusedBy 8 (heardOf (i .frame) (i .bits)))
             ∷ (everything i 9, wrongBy (stateOf i) (command i .number) (asksOf (command i .order)))
-            ∷ (dropped i 12, broken i)
+            ∷ (dropped i 12, wrongPassword i)
+            ∷ (dropped i 14, brokenHalves i)
             ∷ (replied i 10 (movedTo (live i) (used (stateOf i))) [], isError (effect i .code) && fits (replyOf i) (i .room))
             ∷ (everything i 4, not (fits (replyOf i) (i .room)))
             ∷ (lost (i .image) (storesOf i) (i .power) (i .room), ltb (i .power) (length (storesOf i)))

@@ -21,7 +21,7 @@ pub fn unmoved(session: Session, answer: Answer) -> Outcome
     }
 }
 
-// The answer of a number of the table.
+// The answer of a number of the table, up to 13: neither a front nor a transfer gives 14.
 pub fn answer_of(n: u8) -> Answer
     requires { ⌜ n ≤ 13 ⌝ }
     ensures { λ r. ⌜ numberOf r ≡ n ⌝ }

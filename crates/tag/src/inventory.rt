@@ -127,7 +127,7 @@ fn ack(r: Record, n: u16, image: &[u8], room: &mut [u8]) -> Noted
         return noting::done(leaving::fallen(v), 0, 0);
     }
     if v.half != 0 {
-        return noting::dropped(r, Answer::Password);
+        return noting::dropped(r, Answer::Halves);
     }
     let at = image::read_layout(image).epc.at as usize + 1;
     let count = bits::word(image, at) as usize / 2048 + 1;

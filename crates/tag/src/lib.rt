@@ -66,6 +66,7 @@ pub enum Answer {
     PowerLost,
     Password,
     Count,
+    Halves,
 }
 
 // What an operation hands back: its answer, the new session, the reply's length in bits, the stores made, and the register where it was read.
@@ -104,5 +105,6 @@ pub fn number(answer: Answer) -> u8
         Answer::PowerLost => 11,
         Answer::Password => 12,
         Answer::Count => 13,
+        Answer::Halves => 14,
     }
 }

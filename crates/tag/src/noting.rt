@@ -11,7 +11,7 @@ ghost use Rattle.replies.specs.declared.Reply.the-variants as reply;
 ghost use Rattle.states.specs.Numbers.{numbersIn};
 ghost use Rattle.states.specs.ByNumber.{usedIn};
 ghost use Rattle.tag.specs.Session.{numberOf};
-ghost use Rattle.tag.specs.ByNumber.{noted, refusedAt, doneAt, errorAt, tellAt, storeAt, finishAt, droppedAt};
+ghost use Rattle.tag.specs.ByNumber.{noted, refusedAt, doneAt, errorAt, tellAt, storeAt, finishAt, droppedAt, gatedAt};
 use crate::Answer;
 use crate::Noted;
 use crate::answering;
@@ -56,6 +56,19 @@ pub fn dropped(r: Record, answer: Answer) -> Noted
         reply: 0,
         stores: 0,
     }
+}
+
+// A command that the gate stopped: wrong, or its halves make a wrong password or are broken.
+pub fn stopped(r: Record, g: u8) -> Noted
+    ensures { λ o. ⌜ ((m room : List ℕ) → noted o m room ≡ gatedAt g (numbersIn r) m room) ⌝ }
+{
+    if g == 9 {
+        return refused(r, Answer::Wrong);
+    }
+    if g == 12 {
+        return dropped(r, Answer::Password);
+    }
+    dropped(r, Answer::Halves)
 }
 
 // An error's reply; the cover number is used up.

@@ -1,4 +1,4 @@
--- `tag::acting::command` meets its contract: wrong, broken, or decided and performed. Assumes nothing.
+-- `tag::acting::command` meets its contract: stopped, or decided and performed. Assumes nothing.
 use mathlib.Core.Path.{sym, ap, _∙_}
 use denote.Ref.{now}
 use borrow.Author.Tests.{ne-eqb}
@@ -18,24 +18,19 @@ use Rattle.tag.proofs.acting.command.Tie as tie
 returns : tie.Need-returns
 returns c = let a = c .before .before .before .before .before .before .before .before .args in let m = now (a .image) in let y = layoutOf m in let v = numbersIn (a .r) in
     let g = c .before .before .gate .ensures ∙ ap (λ (w : Numbers). gateIn y m w (a .c .number) (a .c .order)) (c .before .before .before .before .unpack .ensures) in
-    rw (c .refused .ensures) (command-way y v m (now (a .room)) (now (a .frame)) (a .fresh) (a .s) (a .c) (sym (c .before .if1 .taken) ∙ g))
-
-returns-2 : tie.Need-returns-2
-returns-2 c = let a = c .before .before .before .before .before .before .before .before .before .args in let m = now (a .image) in let y = layoutOf m in let v = numbersIn (a .r) in
-    let g = c .before .before .before .gate .ensures ∙ ap (λ (w : Numbers). gateIn y m w (a .c .number) (a .c .order)) (c .before .before .before .before .before .unpack .ensures) in
-    c .dropped .ensures _ _ ∙ simp (ne-eqb _ _ (c .before .before .if1 .left), ne-eqb _ _ (c .before .if2 .taken)) at (command-way y v m (now (a .room)) (now (a .frame)) (a .fresh) (a .s) (a .c) g)
+    c .stopped .ensures _ _ ∙ simp (ne-eqb _ _ (c .before .if1 .taken)) at (command-way y v m (now (a .room)) (now (a .frame)) (a .fresh) (a .s) (a .c) g)
 
 perform-requires : tie.Need-perform-requires
-perform-requires c κs = let a = c .before .before .before .before .before .before .before .before .before .before .before .before .args in let m = now (a .image) in let y = layoutOf m in
-    (good-long y m (c .before .before .before .before .before .before .before .before .before .before .before .before .pre .0), rw (c .before .before .decide .ensures) (plan-sound y m (now (a .frame)) (c .before .before .before .before .before .before .before .before .before .before .before .before .pre .0) (c .before .before .before .before .before .before .before .before .unpack .result) (a .c .order) (c .before .before .before .before .before .before .before .before .before .before .before .before .pre .1)))
+perform-requires c κs = let a = c .before .before .before .before .before .before .before .before .before .before .before .args in let m = now (a .image) in let y = layoutOf m in
+    (good-long y m (c .before .before .before .before .before .before .before .before .before .before .before .pre .0), rw (c .before .before .decide .ensures) (plan-sound y m (now (a .frame)) (c .before .before .before .before .before .before .before .before .before .before .before .pre .0) (c .before .before .before .before .before .before .before .unpack .result) (a .c .order) (c .before .before .before .before .before .before .before .before .before .before .before .pre .1)))
 
-returns-3 : tie.Need-returns-3
-returns-3 c = let a = c .before .before .before .before .before .before .before .before .before .before .before .before .before .before .before .before .before .args in let m = now (a .image) in let y = layoutOf m in let v = numbersIn (a .r) in
-    let g = c .before .before .before .before .before .before .before .before .before .before .before .gate .ensures ∙ ap (λ (w : Numbers). gateIn y m w (a .c .number) (a .c .order)) (c .before .before .before .before .before .before .before .before .before .before .before .before .before .unpack .ensures) in
-    let p = c .before .before .before .before .before .before .before .decide .ensures ∙ ap (λ (w : Numbers). planOf y m (now (a .frame)) w (a .c .order)) (c .before .before .before .before .before .before .before .before .before .before .before .before .before .unpack .ensures) in
-    c .before .before .before .before .perform .ensures ∙ ap (λ (p : Plan). performAt v (a .c .number) y m (now (a .frame)) (a .fresh) (now (a .room)) (a .s) p) p ∙ command-way y v m (now (a .room)) (now (a .frame)) (a .fresh) (a .s) (a .c) (sym (c .before .before .before .before .before .before .before .before .before .if2 .left) ∙ g)
+returns-2 : tie.Need-returns-2
+returns-2 c = let a = c .before .before .before .before .before .before .before .before .before .before .before .before .before .before .before .before .args in let m = now (a .image) in let y = layoutOf m in let v = numbersIn (a .r) in
+    let g = c .before .before .before .before .before .before .before .before .before .before .gate .ensures ∙ ap (λ (w : Numbers). gateIn y m w (a .c .number) (a .c .order)) (c .before .before .before .before .before .before .before .before .before .before .before .before .unpack .ensures) in
+    let p = c .before .before .before .before .before .before .before .decide .ensures ∙ ap (λ (w : Numbers). planOf y m (now (a .frame)) w (a .c .order)) (c .before .before .before .before .before .before .before .before .before .before .before .before .unpack .ensures) in
+    c .before .before .before .before .perform .ensures ∙ ap (λ (p : Plan). performAt v (a .c .number) y m (now (a .frame)) (a .fresh) (now (a .room)) (a .s) p) p ∙ command-way y v m (now (a .room)) (now (a .frame)) (a .fresh) (a .s) (a .c) (sym (c .before .before .before .before .before .before .before .before .before .if1 .left) ∙ g)
 
 pub command-spec : {M : Type 1} → statement M
 command-spec =
     tie.close
-    (tie.spec (λ c κs. search needs) (λ c κs. search needs) (λ c κs. search needs) (λ c. search needs) returns (λ c κs. search needs) (λ c. search needs) returns-2 (λ c κs. search needs) perform-requires (λ c. search needs) (λ c. search needs) returns-3)
+    (tie.spec (λ c κs. search needs) (λ c κs. search needs) (λ c κs. search needs) (λ c. search needs) returns (λ c κs. search needs) perform-requires (λ c. search needs) (λ c. search needs) returns-2)
