@@ -196,6 +196,7 @@ static void inventory_random(struct frame *f, const uint8_t *m, const struct tag
 static void command_random(struct frame *f, const uint8_t *m, const struct tag_session *s) {
     static const uint8_t likely[] = {1, 2, 3, 3, 4, 4, 5, 6, 6, 7, 7, 8, 9, 9};
     unsigned code = one_in(30) ? below(256) : one_in(20) ? 0xC0 : 0xC0 + likely[below(sizeof likely)];
+    if (s->half && one_in(2)) code = s->half == TAG_ACCESS_HALF ? 0xC6 : 0xC4;
     unsigned bank = below(4), words = word(m, 5 + 2 * bank), least = 1 + below(3) * below(2), count = one_in(3) ? below(256) : below(20);
     unsigned at = one_in(3) ? below(words + 3) : below(words < 4 ? words + 1 : 4);
     frame_bits(f, code, 8);
@@ -351,7 +352,7 @@ static void one(void) {
 int agree(unsigned calls) {
     for (unsigned i = 0; i < calls; i++) one();
     printf("agree: %u calls, %d differences; by answer:", calls, differences);
-    for (unsigned i = 0; i < 14; i++) printf(" %u", seen[i]);
+    for (unsigned i = 0; i < 15; i++) printf(" %u", seen[i]);
     printf("; checks %u\n", seen[15]);
     return differences;
 }

@@ -379,7 +379,7 @@ INLINED int ack(struct tag_session *s, bytes m, const struct rival_layout *y, by
     if (field16(f, 2) != s->number || s->half) {
         int halves = field16(f, 2) == s->number;
         to_arbitrate(s, 0);
-        return halves ? 12 : 0;
+        return halves ? 14 : 0;
     }
     unsigned words = 1 + (word(m, y->epc + 1) >> 11);
     if (rn < 2 * (size_t)words + 2) return 4;
@@ -596,9 +596,10 @@ static __attribute__((noinline)) int long_frame(struct tag_session *s, uint8_t *
     unsigned v = c.value ^ s->cover, halves = s->half, handle = s->number;
     if (halves) {
         unsigned at = y.reserved + (halves == TAG_ACCESS_HALF ? 2 : 0);
-        if (code != (halves == TAG_ACCESS_HALF ? 0xC6u : 0xC4u) || s->upper != word(m, at) || v != word(m, at + 1)) {
+        int broken = code != (halves == TAG_ACCESS_HALF ? 0xC6u : 0xC4u);
+        if (broken || s->upper != word(m, at) || v != word(m, at + 1)) {
             to_arbitrate(s, 0);
-            return 12;
+            return broken ? 14 : 12;
         }
     }
     /* the error code, and what is stored */
