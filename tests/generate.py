@@ -17,6 +17,9 @@ from build import BANK_EPC, BANK_RESERVED, BANK_TID, BANK_USER, ENOUGH, TARGET_S
 # How many cases a list is given.
 CASES = 32
 
+# Which halves are wrong where a password is: the upper, the lower.
+WRONG_HALVES = {(True, False): "upper", (False, True): "lower", (True, True): "both", (False, False): "none"}
+
 
 # The cases of a list with this number: each list of a seed has the next ones of one long row.
 def cases_for(seed, number):
@@ -35,6 +38,7 @@ class Maker:
         self.lines = []
         self.written = []
         self.situations = []            # before each line
+        self.wrong = []                 # for each line, which halves were wrong, or None
         self.bench = model.Bench()
         self.slips = 4                  # of a hundred numbers, so many are wrong
         self.size = chance.choice(["smallest", "small", "small", "middle", "middle", "edge", "largest"])
@@ -59,9 +63,31 @@ class Maker:
     # Writes a line and brings the bench forward.
     def put(self, line):
         line = line if isinstance(line, bytes) else line.encode("ascii")
+        before = self.session
         self.lines.append(line)
-        self.situations.append(possible.situation_of(self.session))
+        self.situations.append(possible.situation_of(before))
         self.written.append(self.bench.line(line))
+        self.wrong.append(self.wrong_half(before, line))
+
+    # Where the line just written was answered 12: the state, the half that waited, and which were wrong. It is
+    # asked of the words sent and of the image, not of the model's rule.
+    def wrong_half(self, before, line):
+        if self.bench.answer is None or self.bench.answer.number != 12:
+            return None
+        _, half, _ = possible.parts_of(possible.situation_of(before))
+        sent = model.read_frame(*self.frame_of(line)).half
+        if half is None or before.cover is None or sent is None:
+            return None
+        first = 2 if half == "access" else 0
+        wrong = tuple(word != self.section_word("RESERVED", first + k)
+                      for k, word in enumerate((before.half[1], sent ^ before.cover)))
+        return before.state, half, WRONG_HALVES[wrong]
+
+    # The bit count and the bytes of a frame line.
+    @staticmethod
+    def frame_of(line):
+        count, data = line.split(b" ")[1:3]
+        return int(count), model.read_hex(data)
 
     @property
     def session(self):
@@ -658,8 +684,7 @@ class Maker:
     def halves(self, bits, section_first, wrong_percent):
         upper, lower = (self.section_word("RESERVED", section_first + k) for k in (0, 1))
         if self.now_and_then(wrong_percent):
-            upper, lower = self.chance.choice([(upper ^ 1, lower), (upper, lower ^ 0x8000), (lower, upper),
-                                               (0, 0), (self.any_word(), self.any_word())])
+            upper, lower = self.wrong_halves(upper, lower)
         self.take_cover()
         self.send(bits(upper))
         if self.now_and_then(15):
@@ -669,6 +694,71 @@ class Maker:
         if self.now_and_then(12):
             self.interrupt()
         self.send(bits(lower))
+
+    # Halves that do not make this password: the upper, the lower or both are others.
+    def wrong_halves(self, upper, lower):
+        which = self.one_of(("upper", 4), ("lower", 4), ("both", 2))
+        return (upper if which == "lower" else self.other_half(upper, lower),
+                lower if which == "upper" else self.other_half(lower, upper))
+
+    # Another word than this half: one bit off, the password's other half, 0, or any.
+    def other_half(self, half, partner):
+        words = (half ^ 1, half ^ 0x8000, partner, 0, self.any_word())
+        return self.chance.choice([word for word in words if word != half])
+
+    # Whether a first Kill gets no error reply.
+    def has_kill_password(self):
+        return any(self.section_word("RESERVED", k) for k in (0, 1))
+
+    # Makes a half wait, surely: this one, or the right one or any.
+    def make_wait(self, bits, half=None):
+        self.surely(build.req_rn(self.number(0)))
+        slips, self.slips = self.slips, 0
+        self.surely(bits(half))
+        self.slips = slips
+
+    # A waiting half, and one of the commands that break it. Write, Access and Kill have a cover number, the
+    # others now and then.
+    def broken_half(self):
+        half, other = self.access_bits, self.kill_bits
+        if self.has_kill_password() and self.now_and_then(60):
+            half, other = other, half
+        covered = [self.write_bits, other]
+        plain = [self.ack_bits, self.read_bits, self.block_write_bits, self.block_erase_bits]
+        if self.state == "secured":
+            plain += [self.lock_bits, self.block_permalock_bits]
+        breaks = self.chance.choice(2 * covered + 3 * plain + [self.ack_bits])
+        self.make_wait(half)
+        if breaks in covered or self.now_and_then(40):
+            self.surely(build.req_rn(self.number(0)))
+        made = breaks()
+        self.send(*(made if isinstance(made, tuple) else (made,)))
+
+    # Both halves of a password, one of them wrong or both.
+    def wrong_password(self):
+        bits, first = self.access_bits, 2
+        if self.has_kill_password() and self.now_and_then(60):
+            bits, first = self.kill_bits, 0
+        upper, lower = self.wrong_halves(*(self.section_word("RESERVED", first + k) for k in (0, 1)))
+        self.make_wait(bits, upper)
+        self.surely(build.req_rn(self.number(0)))
+        self.send(bits(lower))
+
+    # The tag found surely, and brought to Open or Secured.
+    def enter_surely(self):
+        session = self.chance.randrange(4)
+        self.surely(build.query(0, session, self.right_target(session)))
+        for make in (build.ack, build.req_rn):
+            self.surely(make(self.number(0)))
+
+    # Some passwords in a row that fail, broken or wrong, the tag found again after each.
+    def failing_run(self):
+        for _ in range(self.chance.randrange(2, 7)):
+            self.one_of((self.broken_half, 5), (self.wrong_password, 4))()
+            if self.state in ("ready", "arbitrate"):
+                self.enter_surely()
+            if self.state not in possible.LINKED:
+                return
 
     def access(self):
         self.halves(self.access_bits, 2, 12)
@@ -793,11 +883,11 @@ class Maker:
             return
         self.surely(build.req_rn(self.number(0)))
         if half:
-            self.surely(build.req_rn(self.number(0)))
             make, first = (self.access_bits, 2) if half == "access" else (self.kill_bits, 0)
-            slips, self.slips = self.slips, 0
-            self.surely(make(self.section_word("RESERVED", first)))
-            self.slips = slips
+            upper, lower = (self.section_word("RESERVED", first + k) for k in (0, 1))
+            if answer == 12 and self.now_and_then(50):
+                upper = self.other_half(upper, lower)
+            self.make_wait(make, upper)
         if cover:
             self.surely(build.req_rn(self.number(0)))
 
@@ -987,12 +1077,12 @@ class Maker:
 
     def in_open(self):
         self.one_of((self.access, 7), (self.covered_write, 7), (self.plain_command, 10), (self.kill, 0.8),
-                    (self.any_frame, 1.2), (lambda: self.send(*self.ack_bits()), 0.5),
+                    (self.failing_run, 2), (self.any_frame, 1.2), (lambda: self.send(*self.ack_bits()), 0.5),
                     (lambda: self.send(build.nak()), 0.3), (self.small_call, 0.6))()
 
     def in_secured(self):
         self.one_of((self.plain_command, 16), (self.covered_write, 8), (self.access, 1.5), (self.kill, 0.9),
-                    (self.any_frame, 1.2), (lambda: self.send(*self.ack_bits()), 0.5),
+                    (self.failing_run, 1.5), (self.any_frame, 1.2), (lambda: self.send(*self.ack_bits()), 0.5),
                     (lambda: self.send(build.nak()), 0.4), (self.small_call, 0.6))()
 
     def in_killed(self):

@@ -123,6 +123,22 @@ class Book:
         self.frame(access(ACCESS_LOWER, COVER2, HANDLE),
                    "answer 0 reply 32 state secured number %04x cover - half -" % HANDLE)
 
+    # From Ready or Arbitrate to a waiting half, then a cover number COVER2, or none.
+    def halfway(self, image, kind, upper, covered=True):
+        half = "%s:%04x" % (kind, upper)
+        self.resume(image)
+        self.cover()
+        self.frame(SENDERS[kind](upper, COVER, HANDLE), "answer 0 reply 32 cover - half " + half)
+        if covered:
+            self.cover(COVER2, half)
+
+
+# The commands that bring a password in two halves.
+SENDERS = {"access": access, "kill": kill}
+
+# What 12 and 14 leave of a round of S0 with Q = 0: Arbitrate with slot 0.
+LOST = "state arbitrate number - cover - half - slot 0 q 0 round s0 flags AAAA-"
+
 
 # The small image with changes.
 def small(**changes):
@@ -721,14 +737,18 @@ def repeating(book):
     book.note("from Reply: slot 7fffh, which counts on")
     book.frame(query_rep(0), "answer 0 reply 0 state arbitrate number - slot 32767 q 4 round s0", fresh=0, room=0)
     book.frame(query_rep(0), "answer 0 reply 0 state arbitrate slot 32766", fresh=0, room=0)
-    book.note("Arbitrate with slot 0, after a NAK, a wrong ACK and a wrong password: 7fffh too")
-    for way in ("NAK", "ACK", "Access"):
+    book.note("Arbitrate with slot 0, after a NAK, a wrong ACK, a wrong password and broken halves: 7fffh too")
+    for way in ("NAK", "ACK", "Access", "Read"):
         book.begin(guarded())
         if way == "Access":
             book.cover()
             book.frame(access(0, COVER, HANDLE), "answer 0 half access:0000")
             book.cover(COVER2, "access:0000")
             book.frame(access(0, COVER2, HANDLE), "answer 12 state arbitrate slot 0 q 0 round s0 flags AAAA-")
+        elif way == "Read":
+            book.cover()
+            book.frame(access(0, COVER, HANDLE), "answer 0 half access:0000")
+            book.frame(read(BANK_USER, 0, 1, HANDLE), "answer 14 state arbitrate slot 0 q 0 round s0 flags AAAA-")
         else:
             book.frame(nak() if way == "NAK" else ack(WRONG),
                        "answer 0 reply 0 state arbitrate slot 0 q 0 round s0 flags AAAA-", room=0)
@@ -954,7 +974,7 @@ def inventory_between_halves(book):
             refused_for_frame(book, state, waiting)
             book.frame(query(0, 1), "answer 4 reply 0 " + waiting, fresh=NUMBER, room=1)
             for bits, expected in (
-                    (ack(HANDLE), "answer 12 reply 0 state arbitrate " + gone + "slot 0 q 0 round s0 flags AAAA-"),
+                    (ack(HANDLE), "answer 14 reply 0 state arbitrate " + gone + "slot 0 q 0 round s0 flags AAAA-"),
                     (ack(WRONG), "answer 0 reply 0 state arbitrate " + gone + "slot 0 q 0 round s0 flags AAAA-"),
                     (query(0, 1), "answer 0 whole 1234 state reply number 1234 cover - half - slot - q 0 round s1 "
                      "flags AAAA-"),
@@ -1104,15 +1124,15 @@ def accessing(book):
     book.frame(access(0, COVER, HANDLE), "answer 0 half access:0000")
     book.cover(COVER2, "access:0000")
     book.frame(access(0, COVER2, HANDLE), "answer 0 state secured half -")
-    book.note("wrong upper, wrong lower: 12 after the second alone, and no room is asked for")
-    for upper, lower in ((ACCESS_UPPER ^ 1, ACCESS_LOWER), (ACCESS_UPPER, ACCESS_LOWER ^ 0x8000)):
+    book.note("wrong upper, wrong lower, both: 12 after the second alone, and no room is asked for")
+    for upper, lower in ((ACCESS_UPPER ^ 1, ACCESS_LOWER), (ACCESS_UPPER, ACCESS_LOWER ^ 0x8000),
+                         (ACCESS_LOWER, ACCESS_UPPER)):
         book.begin(image)
         book.cover()
         book.frame(access(upper, COVER, HANDLE), "answer 0 half access:%04x" % upper)
         book.cover(COVER2, "access:%04x" % upper)
         book.frame(access(lower, COVER2, HANDLE),
-                   "answer 12 stores 0 reply 0 state arbitrate number - cover - half - "
-                   "slot 0 q 0 round s0 flags AAAA-", room=0)
+                   "answer 12 stores 0 reply 0 " + LOST, room=0)
     book.note("between the halves")
     book.begin(image)
     book.cover()
@@ -1140,20 +1160,20 @@ def accessing(book):
                        ("Kill", kill(KILL_UPPER, COVER2, HANDLE)),
                        ("BlockWrite", block_write(BANK_USER, 0, [1], HANDLE)),
                        ("BlockErase", block_erase(BANK_USER, 0, 1, HANDLE))):
-        book.note(name + " between the halves: 12")
+        book.note(name + " between the halves: 14")
         book.begin(image)
         book.cover()
         book.frame(access(ACCESS_UPPER, COVER, HANDLE), "answer 0 half access:acce")
         book.cover(COVER2, "access:acce")
-        book.frame(bits, "answer 12 stores 0 reply 0 state arbitrate number - cover - half -", s=0)
+        book.frame(bits, "answer 14 stores 0 reply 0 state arbitrate number - cover - half -", s=0)
     for name, bits in (("Lock", lock(0, 0, HANDLE)),
                        ("BlockPermalock reading", block_permalock(BANK_USER, 0, HANDLE, count=1)),
                        ("BlockPermalock locking", block_permalock(BANK_USER, 0, HANDLE, masks=[0]))):
-        book.note(name + " between the halves, in Secured: 12")
+        book.note(name + " between the halves, in Secured: 14")
         book.begin(small())
         book.cover()
         book.frame(access(1, COVER, HANDLE), "answer 0 half access:0001")
-        book.frame(bits, "answer 12 state arbitrate")
+        book.frame(bits, "answer 14 state arbitrate")
     book.note("NAK between the halves: Arbitrate, answer 0")
     book.begin(image)
     book.cover()
@@ -1164,7 +1184,6 @@ def accessing(book):
 def killing(book):
     book.title("Kill")
     image = small()
-    lost = "state arbitrate number - cover - half - slot 0 q 0 round s0 flags AAAA-"
     book.note("zero kill password: 00h, once more after a 4")
     book.begin(small(reserved=[0, 0, 0, 0]))
     book.cover()
@@ -1178,27 +1197,27 @@ def killing(book):
     book.frame(kill(1, COVER2, HANDLE, spare=2), "answer 0 stores 5 reply 33 state killed number - cover - half - "
                "slot - q - round - flags AAAA-")
     book.dump(_17=1)
-    book.note("wrong halves")
-    for upper, lower in ((KILL_UPPER ^ 0x10, KILL_LOWER), (KILL_UPPER, KILL_LOWER ^ 1)):
+    book.note("wrong upper, wrong lower, both")
+    for upper, lower in ((KILL_UPPER ^ 0x10, KILL_LOWER), (KILL_UPPER, KILL_LOWER ^ 1), (KILL_LOWER, KILL_UPPER)):
         book.begin(image)
         book.cover()
         book.frame(kill(upper, COVER, HANDLE), "answer 0 reply 32 half kill:%04x" % upper)
         book.cover(COVER2, "kill:%04x" % upper)
-        book.frame(kill(lower, COVER2, HANDLE), "answer 12 stores 0 reply 0 " + lost, room=0)
+        book.frame(kill(lower, COVER2, HANDLE), "answer 12 stores 0 reply 0 " + LOST, room=0)
         book.dump(_17=0)
-    book.note("an Access between; without a cover it is 9 first")
+    book.note("an Access between: 14; without a cover it is 9 first")
     book.begin(image)
     book.cover()
     book.frame(kill(KILL_UPPER, COVER, HANDLE), "answer 0 half kill:4b49")
     book.frame(access(0, COVER, HANDLE), "answer 9 half kill:4b49")
     book.cover(COVER2, "kill:4b49")
-    book.frame(access(KILL_LOWER, COVER2, HANDLE), "answer 12 " + lost)
-    book.note("a Kill between the halves of an Access, zero password: 12, not 00h")
+    book.frame(access(KILL_LOWER, COVER2, HANDLE), "answer 14 " + LOST)
+    book.note("a Kill between the halves of an Access, zero password: 14, not 00h")
     book.begin(small(reserved=[0, 0, 0, 0]))
     book.cover()
     book.frame(access(0, COVER, HANDLE), "answer 0 half access:0000")
     book.cover(COVER2, "access:0000")
-    book.frame(kill(0, COVER2, HANDLE), "answer 12 " + lost)
+    book.frame(kill(0, COVER2, HANDLE), "answer 14 " + LOST)
     book.note("right from Open, at every cut; room before power")
     for s in range(6):
         book.begin(guarded())
@@ -1209,6 +1228,206 @@ def killing(book):
         book.frame(kill(KILL_LOWER, COVER2, HANDLE),
                    "answer 11 stores %d state off" % s if s < 5 else "answer 0 stores 5 state killed", s=s, room=5)
         book.line("power 9", "answer 0 state " + ("killed" if s > 2 else "ready"))
+
+
+# The words of the password that a command of this name brings.
+def password_of(image, kind):
+    return image.reserved[0:2] if kind == "kill" else image.reserved[2:4]
+
+
+# Each state in which a half can wait, its image, and each command that waits.
+HALFWAYS = [(state, STARTS[state], kind) for state in ("open", "secured") for kind in ("access", "kill")]
+
+
+def wrong_passwords(book):
+    book.title("12: the second half came, and the two do not make the password")
+    for state, image, kind in HALFWAYS:
+        upper, lower = password_of(image, kind)
+        book.image(image)
+        book.line("power 1", "answer 0 state ready")
+        for name, in_upper, in_lower in (("upper", 1, 0), ("lower", 0, 1), ("both", 1, 1)):
+            for bit, room, s, remark in ((1, 64, ENOUGH, ""), (0x8000, 0, 0, "; no room, no power")):
+                book.note("%s, %s: %s wrong%s" % (state, kind, name, remark))
+                book.halfway(image, kind, upper ^ in_upper * bit)
+                book.frame(SENDERS[kind](lower ^ in_lower * bit, COVER2, HANDLE),
+                           "answer 12 stores 0 reply 0 " + LOST, room=room, s=s)
+        book.note("the lower half under the upper's cover number")
+        book.halfway(image, kind, upper)
+        book.frame(SENDERS[kind](lower, COVER, HANDLE), "answer 12 stores 0 reply 0 " + LOST)
+        book.note("9 comes first: no cover number, another handle; then the wrong half")
+        book.halfway(image, kind, upper, covered=False)
+        waiting = "state %s number a5c3 cover %%s half %s:%04x" % (state, kind, upper)
+        book.frame(SENDERS[kind](lower ^ 1, COVER2, HANDLE), "answer 9 reply 0 " + waiting % "-")
+        book.cover(COVER2, "%s:%04x" % (kind, upper))
+        book.frame(SENDERS[kind](lower ^ 1, COVER2, WRONG), "answer 9 reply 0 " + waiting % "7b2d")
+        book.frame(SENDERS[kind](lower ^ 1, COVER2, HANDLE), "answer 12 stores 0 reply 0 " + LOST)
+        book.dump(_17=0, _18=KILL_UPPER, _28=3, _45=0)
+    book.note("in Secured after a right Access, the password not zero")
+    image = guarded()
+    for upper, lower in ((ACCESS_UPPER ^ 1, ACCESS_LOWER), (ACCESS_UPPER, ACCESS_LOWER ^ 1), (0, 0)):
+        book.begin(image)
+        book.access()
+        book.cover()
+        book.frame(access(upper, COVER, HANDLE), "answer 0 state secured half access:%04x" % upper)
+        book.cover(COVER2, "access:%04x" % upper)
+        book.frame(access(lower, COVER2, HANDLE), "answer 12 stores 0 reply 0 " + LOST)
+
+
+# The commands to this tag that break a half waiting for this password: Write, and the other of Access and
+# Kill, with the word that was waited for, both under COVER2; and those that need no cover number.
+def breaking(state, image, kind):
+    word = password_of(image, kind)[1]
+    covered = [("Write", write(BANK_USER, 0, 1, COVER2, HANDLE)),
+               ("Kill", kill(word, COVER2, HANDLE)) if kind == "access" else ("Access", access(word, COVER2, HANDLE))]
+    plain = [("ACK", ack(HANDLE)), ("Read", read(BANK_USER, 0, 1, HANDLE)),
+             ("BlockWrite", block_write(BANK_USER, 0, [1, 2], HANDLE)),
+             ("BlockErase", block_erase(BANK_USER, 0, 2, HANDLE))]
+    if state == "secured":
+        plain += [("Lock", lock(0x200, 0x200, HANDLE)),
+                  ("BlockPermalock reading", block_permalock(BANK_USER, 0, HANDLE, count=1)),
+                  ("BlockPermalock locking", block_permalock(BANK_USER, 0, HANDLE, masks=[0x8000]))]
+    return covered, plain
+
+
+# Commands that would be answered 10 where no half waits, under COVER2 where they have one.
+def erring(state):
+    frames = [("Read past the end", read(BANK_USER, 16, 1, HANDLE)),
+              ("Write past the end", write(BANK_USER, 16, 1, COVER2, HANDLE)),
+              ("Write of TID", write(BANK_TID, 0, 1, COVER2, HANDLE)),
+              ("BlockWrite past the end", block_write(BANK_USER, 15, [1, 2], HANDLE)),
+              ("BlockErase of EPC word 0", block_erase(BANK_EPC, 0, 1, HANDLE))]
+    if state == "secured":
+        frames += [("BlockPermalock of another bank", block_permalock(BANK_EPC, 0, HANDLE, count=1)),
+                   ("BlockPermalock past PERMA", block_permalock(BANK_USER, 1, HANDLE, masks=[0x8000]))]
+    return frames
+
+
+def broken_halves(book):
+    book.title("14: another command to this tag came between the halves")
+    broken = "answer 14 stores 0 reply 0 " + LOST
+    for state, image, kind in HALFWAYS:
+        upper = password_of(image, kind)[0]
+        covered, plain = breaking(state, image, kind)
+        book.image(image)
+        book.line("power 1", "answer 0 state ready")
+        for name, bits in covered + plain:
+            book.note("%s, half of %s: %s" % (state, kind, name))
+            book.halfway(image, kind, upper)
+            book.frame(bits, broken)
+        book.note("before 4 and 11: no room, no power; a wrong upper half; no cover number where none is needed")
+        for name, bits in covered + plain:
+            book.note("%s, half of %s: %s" % (state, kind, name))
+            book.halfway(image, kind, upper ^ 1, covered=(name, bits) in covered)
+            book.frame(bits, broken, room=0, s=0)
+        book.note("before 10: what would be an error reply")
+        for name, bits in erring(state):
+            book.note("%s, half of %s: %s" % (state, kind, name))
+            book.halfway(image, kind, upper)
+            book.frame(bits, broken)
+        book.dump(_16=0, _17=0, _18=KILL_UPPER, _22=0x9297, _28=3, _29=3, _44=0, _45=0)
+    book.note("a Lock that would be 04h, a Kill that would be 00h, before 10")
+    for image, bits in ((small(lock=0x001), lock(0x001, 0x000, HANDLE)),
+                        (small(reserved=[0, 0, 0, 0]), kill(0, COVER2, HANDLE))):
+        book.image(image)
+        book.line("power 1", "answer 0 state ready")
+        book.halfway(image, "access", 0)
+        book.frame(bits, broken)
+    book.note("both passwords alike: the other command's second half is none of this")
+    for words in ([0xACCE, 0x55ED], [1, 0]):
+        image = small(reserved=2 * words)
+        book.image(image)
+        book.line("power 1", "answer 0 state ready")
+        for kind, other in (("access", kill), ("kill", access)):
+            book.halfway(image, kind, words[0])
+            book.frame(other(words[1], COVER2, HANDLE), broken)
+
+
+def half_waits_on(book):
+    book.title("between the halves: 7, 8, 9, Req_RN and 4 leave the half waiting, and the right one still comes")
+    for state, image, kind in HALFWAYS:
+        upper, lower = password_of(image, kind)
+        half = "%s:%04x" % (kind, upper)
+        second = SENDERS[kind](lower, COVER2, HANDLE)
+        book.note("%s, half of %s, no cover number: Write, Access and Kill are 9" % (state, kind))
+        book.image(image)
+        book.line("power 1", "answer 0 state ready")
+        book.halfway(image, kind, upper, covered=False)
+        waiting = "state %s number a5c3 cover - half %s" % (state, half)
+        for bits in (write(BANK_USER, 0, 1, COVER2, HANDLE), write(BANK_USER, 16, 1, COVER2, HANDLE),
+                     access(lower, COVER2, HANDLE), kill(lower, COVER2, HANDLE)):
+            book.frame(bits, "answer 9 stores 0 reply 0 " + waiting)
+        out_of_place_halfway(book, state, waiting)
+        book.frame(req_rn(HANDLE), "answer 4 reply 0 " + waiting, fresh=COVER2, room=3)
+        book.note("a cover number, another, and the same with it")
+        book.cover(COVER, half)
+        book.cover(COVER2, half)
+        waiting = "state %s number a5c3 cover 7b2d half %s" % (state, half)
+        out_of_place_halfway(book, state, waiting)
+        book.frame(req_rn(HANDLE), "answer 4 reply 0 " + waiting, fresh=COVER, room=3)
+        book.note("the right half: 4 in a room too small, then 0")
+        book.frame(second, "answer 4 stores 0 reply 0 " + waiting, room=3)
+        book.frame(second, "answer 0 stores 0 reply 32 state secured number a5c3 cover - half -" if kind == "access"
+                   else "answer 0 stores 5 reply 33 state killed number - cover - half -")
+        book.note("NAK: Arbitrate, answer 0; an ACK with another number the same")
+        for bits in (nak(), ack(WRONG)):
+            for covered in (False, True):
+                book.image(image)
+                book.line("power 1", "answer 0 state ready")
+                book.halfway(image, kind, upper, covered)
+                book.frame(bits, "answer 0 stores 0 reply 0 " + LOST, room=0, s=0)
+
+
+# Frames between the halves that are 7, 8 or 9 with a cover number or without.
+def out_of_place_halfway(book, state, waiting):
+    for name, bits in one_of_each(WRONG):
+        book.frame(bits, "answer 9 stores 0 reply 0 " + waiting)
+    frames = [block_write(BANK_USER, 0, [], HANDLE), block_erase(BANK_USER, 0, 0, HANDLE),
+              block_erase(BANK_USER, 99, 0, HANDLE), block_permalock(BANK_USER, 0, HANDLE, count=0),
+              block_permalock(BANK_USER, 0, HANDLE, masks=[]), block_permalock(BANK_USER, 0, HANDLE, count=1, rfu=1),
+              block_permalock(BANK_USER, 0, HANDLE, masks=[0], rfu=0x80)]
+    if state == "open":
+        frames += [lock(0, 0, HANDLE), block_permalock(BANK_USER, 0, HANDLE, count=1),
+                   block_permalock(BANK_USER, 0, HANDLE, masks=[0x8000]),
+                   block_permalock(BANK_EPC, 9, HANDLE, count=1)]
+    for bits in frames:
+        book.frame(bits, "answer 9 stores 0 reply 0 " + waiting, room=0, s=0)
+    for name, bits in one_of_each(HANDLE):
+        book.frame(bits + "0", "answer 7 stores 0 reply 0 " + waiting)
+        book.frame(flipped(bits, -1), "answer 8 stores 0 reply 0 " + waiting)
+
+
+def lost_in_round(book):
+    book.title("12 and 14: round, flags and the register stay")
+    image = small(perma=[0x8000])
+    book.image(image)
+    book.line("power 1", "answer 0 state ready")
+    book.line("ask", "answer 0 port held")
+    book.line("write 0 ffff 9", "answer 0 stores 0 register 2")
+    book.line("release", "answer 0 port free register 2")
+    book.frame(select(TARGET_SL, 0, BANK_EPC, 0, ""), "answer 0 flags AAAAS", room=0)
+    book.frame(select(1, 4, BANK_EPC, 0, ""), "answer 0 flags ABAAS", room=0)
+    number = 0x1238
+    lost = ("stores 0 reply 0 state arbitrate number - cover - half - port free register 2 slot 0 q 3 round s2 "
+            "flags ABAAS")
+    for kind, bits, answer in (("access", access(1, COVER2, HANDLE), 12), ("kill", kill(1, COVER2, HANDLE), 12),
+                               ("access", kill(1, COVER2, HANDLE), 14), ("kill", access(1, COVER2, HANDLE), 14),
+                               ("access", ack(HANDLE), 14), ("kill", ack(HANDLE), 14),
+                               ("access", block_erase(BANK_USER, 4, 1, HANDLE), 14),
+                               ("kill", lock(0x200, 0x200, HANDLE), 14)):
+        upper = password_of(image, kind)[0]
+        book.frame(query(3, 2, 0, 3), "answer 0 whole 1238 state reply q 3 round s2 flags ABAAS",
+                   fresh=number, room=2)
+        book.frame(ack(number), "answer 0 state acknowledged q 3 round s2 flags ABAAS")
+        book.frame(req_rn(number), "answer 0 state secured number a5c3 register 2", fresh=HANDLE)
+        book.cover()
+        book.frame(SENDERS[kind](upper, COVER, HANDLE), "answer 0 half %s:%04x" % (kind, upper))
+        book.cover(COVER2, "%s:%04x" % (kind, upper))
+        book.frame(bits, "answer %d %s" % (answer, lost))
+        book.frame(req_rn(HANDLE), "answer 9 " + lost, fresh=COVER)
+    book.note("the slot counts on from 0")
+    book.frame(query_rep(2), "answer 0 reply 0 state arbitrate slot 32767 q 3 round s2 flags ABAAS register 2",
+               room=0)
+    book.dump(_16=0, _17=0, _28=3, _32=0x18, _45=0)
 
 
 def locking(book):
@@ -1609,6 +1828,14 @@ def image_changed(book):
         book.image(small(reserved=[0, 0, 0, 0]))
         book.cover(COVER2, "kill:%04x" % upper)
         book.frame(kill(0, COVER2, HANDLE), answer)
+    book.note("so is the second Access")
+    for upper, answer in ((0, "answer 0 stores 0 state secured half -"), (ACCESS_UPPER, "answer 12 state arbitrate")):
+        book.begin(guarded())
+        book.cover()
+        book.frame(access(upper, COVER, HANDLE), "answer 0 half access:%04x" % upper)
+        book.image(small())
+        book.cover(COVER2, "access:%04x" % upper)
+        book.frame(access(0, COVER2, HANDLE), answer)
     book.note("an access password that came later leaves Secured as it is")
     book.begin(small())
     book.image(guarded())
@@ -1634,6 +1861,7 @@ def whole_list():
                  session_and_nak, malformed, out_of_place, inventory_refused, inventory_malformed,
                  querying, adjusting, repeating, acknowledging, selecting, inventory_between_halves,
                  reading, writing, accessing, killing,
+                 wrong_passwords, broken_halves, half_waits_on, lost_in_round,
                  locking, block_writing, block_erasing, block_permalocking, spi_port, killed_tag,
                  image_changed):
         part(book)

@@ -675,16 +675,22 @@ def to_this_tag(session, command):
     return command.code in NUMBERED or (command.code == ACK and command.number == session.number)
 
 
-# Whether the halves of a password are broken, or the password is wrong;
-# answer 12.
-def halves_broken(image, layout, session, command):
+# The two ways a password fails: its second half came and the two do not make it,
+# or its halves are broken, since another command to this tag came between them.
+PASSWORD_WRONG, HALVES_BROKEN = 12, 14
+
+
+# Which of the two a command is while a half waits; None for Req_RN, for NAK and
+# whatever else is not to this tag, and for the half that makes the password.
+def password_failed(image, layout, session, command):
     if session.half is None or command.code == REQ_RN or not to_this_tag(session, command):
-        return False
+        return None
     waiting, upper = session.half
     if command.code != waiting:
-        return True
+        return HALVES_BROKEN
     password = access_password if waiting == ACCESS else kill_password
-    return (upper, command.half ^ session.cover) != password(image, layout)
+    made = (upper, command.half ^ session.cover) == password(image, layout)
+    return None if made else PASSWORD_WRONG
 
 
 # --------------------------------------------------------------------------
@@ -1015,15 +1021,16 @@ def make_plan(call):
     return plan
 
 
-# A radio frame; order 1, 2, 3, 5, 6, 7, 8, 9, 12, 10, 4, 11.
+# A radio frame; order 1, 2, 3, 5, 6, 7, 8, 9, then 12 or 14, then 10, 4, 11.
 def radio_frame(image, session, bit_count, data, fresh, room, s):
     layout = check_image(image)
     refuse(session.state == "off" or pending_count(image, layout) > 0, 5)
     refuse(session.held, 6)
     command = read_frame(bit_count, data)
     refuse_out_of_place(session, command)
-    if halves_broken(image, layout, session, command):
-        return Answer(12, to_arbitrate(session))
+    failed = password_failed(image, layout, session, command)
+    if failed is not None:
+        return Answer(failed, to_arbitrate(session))
     plan = make_plan(Call(image, layout, session, command, fresh))
     refuse(rounded_up(len(plan.reply), 8) > room, 4)
     power = Power(image, s)

@@ -56,8 +56,8 @@ UNHALVED = {"ACK": {0, 4}, "Read": {0, 4, 9, 10}, "Write": {0, 4, 9, 10, 11}, "K
             "Lock": {0, 4, 9, 10, 11}, "Access": {0, 4, 9}, "BlockWrite": {0, 4, 9, 10, 11},
             "BlockErase": {0, 4, 9, 10, 11}, "BlockPermalock": {0, 4, 9, 10, 11}}
 
-# The right second half.
-RIGHT = {("access", "Access"): {0, 4}, ("kill", "Kill"): {0, 4, 11}}
+# The command that a waiting half waits for, and what it can be answered: 12 where the password is wrong.
+SECOND = {"access": ("Access", {0, 4, 9, 12}), "kill": ("Kill", {0, 4, 9, 11, 12})}
 
 
 # What a frame past 8 can be answered in Open and Secured.
@@ -70,9 +70,12 @@ def linked_answers(state, half, cover, command):
         return {9}
     if half is None:
         return UNHALVED[command]
+    second, answers = SECOND[half]
+    if command == second:
+        return answers                  # never 14: it breaks no halves
     if command == "ACK":
-        return {0, 12}                  # another number; the handle
-    return {9, 12} | RIGHT.get((half, command), set())
+        return {0, 14}                  # another number; the handle
+    return {9, 14}                      # never 12: no password is compared
 
 
 # What a frame of this command can be answered.

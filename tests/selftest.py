@@ -161,6 +161,34 @@ def limit_cases():
     assert code_of(send(bench, build.write(BANK_EPC, 1, 3 << 11, COVER, HANDLE))) == 0x03
 
 
+# Which of the two it was, in Secured: 12 where the second half came and does not make the password, 14 where
+# another command to this tag came. Either way Arbitrate, no reply and the image as it was.
+def password_cases():
+    lost = model.Session("arbitrate", slot=0, round=model.Round(0, 0), flags=model.Flags())
+    for second, other, upper, lower in ((build.access, build.kill, 0, 0), (build.kill, build.access, 0x4B49, 0x4C4C)):
+        for in_upper, in_lower, number in ((0, 0, 0), (1, 0, 12), (0, 0x8000, 12), (1, 1, 12)):
+            bench, _ = halfway_bench(second(upper ^ in_upper, COVER, HANDLE))
+            assert send(bench, second(lower ^ in_lower, COVER, HANDLE)).number == number
+            assert number == 0 or bench.session == lost
+        for bits in (other(lower, COVER, HANDLE), build.ack(HANDLE), build.read(BANK_USER, 0, 1, HANDLE),
+                     build.read(BANK_USER, 16, 1, HANDLE), build.write(BANK_USER, 0, 1, COVER, HANDLE),
+                     build.lock(0x200, 0x200, HANDLE), build.block_write(BANK_USER, 0, [1], HANDLE),
+                     build.block_erase(BANK_USER, 0, 1, HANDLE),
+                     build.block_permalock(BANK_USER, 0, HANDLE, masks=[0x8000])):
+            bench, image = halfway_bench(second(upper, COVER, HANDLE))
+            answer = send(bench, bits, room=0, s=0)
+            assert (answer.number, answer.reply, answer.made) == (14, "", [])
+            assert bench.session == lost and bytes(bench.image) == image
+
+
+# A bench in Secured between two halves, with a cover number; and its image.
+def halfway_bench(first):
+    bench = secured_bench(Image())
+    assert send(bench, first).number == 0
+    assert send(bench, build.req_rn(HANDLE), fresh=COVER).session.half is not None
+    return bench, bytes(bench.image)
+
+
 # --------------------------------------------------------------------------
 # The lines' own limits
 # --------------------------------------------------------------------------
@@ -240,10 +268,8 @@ POSSIBLE_CODES = {
     (model.BLOCK_PERMALOCK, "04")}
 
 
-def list_cases():
-    with open(makelist.LIST, "rb") as source:
-        content = source.read()
-    assert content == makelist.whole_list().encode("utf-8"), "crates/bench/stdin is not as makelist.py writes it"
+# Holds the model to what the list says of each line: how many lines, and the answers, error codes and cases seen.
+def walk_list(content):
     bench, expected, held = model.Bench(), None, 0
     answers, codes, seen = set(), set(), set()
     for number, text in enumerate(model.lines_of(content), 1):
@@ -262,11 +288,21 @@ def list_cases():
             codes.add((command_of(text), parts["code"]))
         if text.startswith(b"frame") and "answer" in parts:
             seen.add((situation, model.NAMES.get(command_of(text), "unknown code"), int(parts["answer"])))
-    assert {str(n) for n in range(14)} <= answers
+    return held, answers, codes, seen
+
+
+def list_cases():
+    with open(makelist.LIST, "rb") as source:
+        content = source.read()
+    assert content == makelist.whole_list().encode("utf-8"), "crates/bench/stdin is not as makelist.py writes it"
+    held, answers, codes, seen = walk_list(content)
+    assert {str(n) for n in range(15)} <= answers
     assert codes == POSSIBLE_CODES, codes ^ POSSIBLE_CODES
     assert seen <= set(possible.POSSIBLE), seen - set(possible.POSSIBLE)
     wanted = {case for case in possible.POSSIBLE if case[1] in possible.INVENTORY}
     assert coarse(wanted) <= coarse(seen), coarse(wanted) - coarse(seen)
+    failing = {case for case in possible.POSSIBLE if case[2] in (12, 14)}
+    assert failing <= seen, failing - seen
     return held
 
 
@@ -276,9 +312,61 @@ def coarse(cases):
             for situation, kind, answer in cases}
 
 
+# --------------------------------------------------------------------------
+# That the list can fail
+# --------------------------------------------------------------------------
+
+# Wrong rules for a password that fails: what they answer, seeing the right answer, the session, the command and
+# the password.
+WRONG_RULES = {
+    "12 for both": lambda right, session, command, password: 12,
+    "14 for both": lambda right, session, command, password: 14,
+    "the two exchanged": lambda right, session, command, password: 26 - right,
+    "broken halves go through": lambda right, session, command, password: None if right == 14 else right,
+    "an ACK breaks nothing": lambda right, session, command, password:
+        None if command.code == model.ACK else right,
+    "12 in Open": lambda right, session, command, password: 12 if session.state == "open" else right,
+    "12 in Secured": lambda right, session, command, password: 12 if session.state == "secured" else right,
+    "12 without a cover number": lambda right, session, command, password: 12 if session.cover is None else right,
+    "12 for any half": lambda right, session, command, password: right if command.half is None else 12,
+    "12 after a wrong upper half": lambda right, session, command, password:
+        right if session.half[1] == password[0] else 12,
+    "14 after a right upper half": lambda right, session, command, password:
+        14 if session.half[1] == password[0] else right}
+
+
+# Whether the list notices a model with this rule.
+def noticed(rule, content):
+    right_rule = model.password_failed
+
+    def wrong_rule(image, layout, session, command):
+        right = right_rule(image, layout, session, command)
+        if right is None:
+            return None
+        password = model.access_password if session.half[0] == model.ACCESS else model.kill_password
+        return rule(right, session, command, password(image, layout))
+
+    model.password_failed = wrong_rule
+    try:
+        walk_list(content)
+    except AssertionError:
+        return True
+    finally:
+        model.password_failed = right_rule
+    return False
+
+
+def able_to_fail():
+    content = makelist.whole_list().encode("utf-8")
+    for name, rule in WRONG_RULES.items():
+        assert noticed(rule, content), name
+
+
 if __name__ == "__main__":
     for case in (crc_cases, crc5_cases, ebv_cases, small_image_cases, write_cases, lock_cases, spi_case,
-                 inventory_case, limit_cases, line_cases):
+                 inventory_case, limit_cases, password_cases, line_cases):
         case()
         print("good:", case.__name__)
     print("good: the list of bench, %d lines held to what they must bring" % list_cases())
+    able_to_fail()
+    print("good: the list of bench notices each of %d wrong rules of 12 and 14" % len(WRONG_RULES))

@@ -181,7 +181,7 @@ static void inventory(void) {
     same("rep ends the round", o.session, ready);
 }
 
-/* arguments and the outcome's other fields: a covered Write, a Read, the second half of a Kill, a cut power-up, the port */
+/* arguments and the outcome's other fields: a covered Write, a Read, the halves of a Kill, a cut power-up, the port */
 static void calls(void) {
     static const uint8_t write[] = {0xC3, 0xC0, 0xFC, 0x65, 0xC4, 0x8D, 0x0C, 0xDE, 0x80};
     static const uint8_t read[] = {0xC2, 0xC0, 0xC0, 0x84, 0x8D, 0x1F, 0xEA, 0x80};
@@ -213,6 +213,15 @@ static void calls(void) {
     o = tag_frame(secured, image, sizeof image, 59, kill, 8, 0x7777, room, sizeof room, 0);
     is("kill.upper", o.session.upper, 0x4B49);
     is("kill.half", o.session.half, TAG_KILL_HALF);
+    struct tag_session halfway = o.session;
+    halfway.covered = 1;
+    halfway.cover = 0x5A5A;
+    o = tag_frame(halfway, image, sizeof image, 59, kill, 8, 0x7777, room, sizeof room, 5);
+    is("kill with a wrong lower half", o.answer, 12);
+    is("kill with a wrong lower half, state", o.session.state, TAG_ARBITRATE);
+    o = tag_frame(halfway, image, sizeof image, 66, write, 9, 0x7777, room, sizeof room, 5);
+    is("write between the halves", o.answer, 14);
+    is("write between the halves, state", o.session.state, TAG_ARBITRATE);
     struct tag_session held = {.state = TAG_READY, .held = 1};
     o = tag_write(held, image, sizeof image, 46, words, 4, 8);
     is("write.answer", o.answer, 0);
