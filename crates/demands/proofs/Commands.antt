@@ -39,7 +39,7 @@ use Rattle.states.specs.declared.Half.the-variants as half
 use Rattle.states.specs.declared.Link.{Link}
 use Rattle.states.specs.declared.Part.the-variants as part
 use Rattle.states.specs.declared.Flags.{Flags}
-use Rattle.states.proofs.Gates.{Named}
+use Rattle.states.proofs.Gates.{Named, halves-between}
 use Rattle.states.specs.declared.State.{State}
 use Rattle.states.specs.declared.State.the-variants as state
 use Rattle.tag.specs.declared.Session.{Session}
@@ -248,11 +248,6 @@ module _ (a : Air) (r : Aside) (q : Round) (idle : Idle (layoutOf (a .image)) (a
       → halvesOf (layoutOf (a .image)) (a .image) (state.Open k) o ≡ 0 → at (state.Open k) o .code ≡ code.Nothing → Comes (k .handle) o (state.Open k)
   open-done k o t s c d b e = order-done (state.Open k) (k .handle) o (rw (heard-open (asksOf o .who) k t s, c, d)) b e
 
-  unbroken : (k : Link) (p : Half) → halvesRow (layoutOf (a .image)) (a .image) k p part.Between ≡ 0
-  unbroken k half.Nothing = refl
-  unbroken k (half.Access up) = refl
-  unbroken k (half.Kill up) = refl
-
 -- NAK, and the commands of inventory
 module _ (a : Air) (r : Aside) (idle : Idle (layoutOf (a .image)) (a .image)) where
   -- NAK in each state of a round
@@ -264,8 +259,8 @@ module _ (a : Air) (r : Aside) (idle : Idle (layoutOf (a .image)) (a .image)) wh
   nak-singled : (st : State) (q : Round) → Singled st q → Does answerOf (layoutOf (a .image)) a r q 0 order.Nak st (quiet (state.Arbitrate q 0))
   unfolding at Comes
   nak-singled st q (facts.acknowledged p n) = order-done a r q idle (state.Acknowledged q n) 0 order.Nak refl refl refl
-  nak-singled st q (facts.opened k) = order-done a r q idle (state.Open k) 0 order.Nak refl (unbroken a r q idle k (k .half)) refl
-  nak-singled st q (facts.secured k) = order-done a r q idle (state.Secured k) 0 order.Nak refl (unbroken a r q idle k (k .half)) refl
+  nak-singled st q (facts.opened k) = order-done a r q idle (state.Open k) 0 order.Nak refl (halves-between (layoutOf (a .image)) (a .image) k (k .half)) refl
+  nak-singled st q (facts.secured k) = order-done a r q idle (state.Secured k) 0 order.Nak refl (halves-between (layoutOf (a .image)) (a .image) k (k .half)) refl
 
 module _ (a : Air) (r : Aside) (q : Round) (idle : Idle (layoutOf (a .image)) (a .image)) where
   some : (n : ℕ) → 1 ≤ n → eqb n 0 ≡ false
@@ -305,8 +300,8 @@ module _ (a : Air) (r : Aside) (q : Round) (idle : Idle (layoutOf (a .image)) (a
             order-done a r q idle (state.Acknowledged q n) n order.ReqRn (rw (eq-eqb n n refl)) refl refl says enough
             ∙ ap numbered-so (nonzero (accessWord (layoutOf (a .image)) (a .image) 0) (accessWord (layoutOf (a .image)) (a .image) 1) d);
         req-rn-cover = elim [
-          | true ↦ λ h c p. secured-done a r q idle (link q h c p) order.ReqRn tt refl refl (unbroken a r q idle (link q h c p) p) refl
-          | false ↦ λ h c p. open-done a r q idle (link q h c p) order.ReqRn tt refl refl refl (unbroken a r q idle (link q h c p) p) refl
+          | true ↦ λ h c p. secured-done a r q idle (link q h c p) order.ReqRn tt refl refl (halves-between (layoutOf (a .image)) (a .image) (link q h c p) p) refl
+          | false ↦ λ h c p. open-done a r q idle (link q h c p) order.ReqRn tt refl refl refl (halves-between (layoutOf (a .image)) (a .image) (link q h c p) p) refl
         ];
         read = elim [
           | true ↦ λ h c b p n k e d.
@@ -362,8 +357,8 @@ module _ (a : Air) (r : Aside) (idle : Idle (layoutOf (a .image)) (a .image)) wh
       subst (λ (x : Effect). Turns answerOf (layoutOf (a .image)) a r q n o st (x .flags) (record { state = x .state; reply = x .reply; words = x .words })) h
       (order-done a r q idle st n o w b (ap (λ (x : Effect). x .code) h ∙ c))
 
-  between : (st : State) (q : Round) → halvesRow (layoutOf (a .image)) (a .image) (linkOf st) (linkOf st .half) part.Between ≡ 0
-  between st q = unbroken a r q idle (linkOf st) (linkOf st .half)
+  between : (st : State) → halvesRow (layoutOf (a .image)) (a .image) (linkOf st) (linkOf st .half) part.Between ≡ 0
+  between st = halves-between (layoutOf (a .image)) (a .image) (linkOf st) (linkOf st .half)
 
   -- a slot that is drawn or counted down
   waits-so : (q : Round) (slot : ℕ) → slot ≢ 0 → drawn q slot (a .fresh) ≡ state.Arbitrate q slot
@@ -378,7 +373,7 @@ module _ (a : Air) (r : Aside) (idle : Idle (layoutOf (a .image)) (a .image)) wh
       → Turns answerOf (layoutOf (a .image)) a r q 0 (order.Query sel t p) st g (record { state = to; reply = drawnReply to; words = [] })
   unfolding at
   query-to st q sel t p g to k h e =
-      comes-to st q 0 (order.Query sel t p) (turns g to) (rw (not-killed st k)) (between st q)
+      comes-to st q 0 (order.Query sel t p) (turns g to) (rw (not-killed st k)) (between st)
       (ap (λ (f : Flags). turns f (queried f sel t p (a .fresh))) (first-step st (p .session) (r .flags) g h) ∙ ap (turns g) e) refl
 
   joins-so : (sel t : ℕ) (p : Round) (g : Flags) (to : State) → Matches g sel t (p .session) → drawn p (slotFrom p (a .fresh)) (a .fresh) ≡ to → queried g sel t p (a .fresh) ≡ to
@@ -395,7 +390,7 @@ module _ (a : Air) (r : Aside) (idle : Idle (layoutOf (a .image)) (a .image)) wh
   unfolding at
   adjust-to st q slot u new to x h e =
       comes-to st q 0 (order.QueryAdjust (q .session) u) (turns (r .flags) to)
-      (session-right st q 0 (order.QueryAdjust (q .session) u) (slotted-session st q slot (q .session) 0 x) refl (says-up-down u (q .q) new h)) (between st q) (go st q slot x h e) refl
+      (session-right st q 0 (order.QueryAdjust (q .session) u) (slotted-session st q slot (q .session) 0 x) refl (says-up-down u (q .q) new h)) (between st) (go st q slot x h e) refl
     where
       go : (st : State) (q : Round) (slot : ℕ) → Slotted st q slot → Adjusts u (q .q) new → drawn (record { session = q .session; q = new }) (a .fresh % 2 ^ new) (a .fresh) ≡ to
           → turns (leftFlags (r .flags) st) (adjusted st u (a .fresh)) ≡ turns (r .flags) to
@@ -407,7 +402,7 @@ module _ (a : Air) (r : Aside) (idle : Idle (layoutOf (a .image)) (a .image)) wh
   unfolding at
   rep-to st q slot next to x h e =
       comes-to st q 0 (order.QueryRep (q .session)) (turns (r .flags) to)
-      (session-right st q 0 (order.QueryRep (q .session)) (slotted-session st q slot (q .session) 0 x) refl refl) (between st q) (go st q slot x h e) refl
+      (session-right st q 0 (order.QueryRep (q .session)) (slotted-session st q slot (q .session) 0 x) refl refl) (between st) (go st q slot x h e) refl
     where
       go : (st : State) (q : Round) (slot : ℕ) → Slotted st q slot → CountsDown slot next → drawn q next (a .fresh) ≡ to
           → turns (leftFlags (r .flags) st) (repeated st (a .fresh)) ≡ turns (r .flags) to
@@ -420,7 +415,7 @@ module _ (a : Air) (r : Aside) (idle : Idle (layoutOf (a .image)) (a .image)) wh
   unfolding at
   adjust-left st q u new x h =
       comes-to st q 0 (order.QueryAdjust (q .session) u) (turns (inverted (r .flags) (q .session)) state.Ready)
-      (session-right st q 0 (order.QueryAdjust (q .session) u) (singled-session st q (q .session) 0 x) refl (says-up-down u (q .q) new h)) (between st q) (go st q x) refl
+      (session-right st q 0 (order.QueryAdjust (q .session) u) (singled-session st q (q .session) 0 x) refl (says-up-down u (q .q) new h)) (between st) (go st q x) refl
     where
       go : (st : State) (q : Round) → Singled st q → turns (leftFlags (r .flags) st) (adjusted st u (a .fresh)) ≡ turns (inverted (r .flags) (q .session)) state.Ready
       go st q (facts.acknowledged p n) = refl
@@ -431,7 +426,7 @@ module _ (a : Air) (r : Aside) (idle : Idle (layoutOf (a .image)) (a .image)) wh
   unfolding at
   rep-left st q x =
       comes-to st q 0 (order.QueryRep (q .session)) (turns (inverted (r .flags) (q .session)) state.Ready)
-      (session-right st q 0 (order.QueryRep (q .session)) (singled-session st q (q .session) 0 x) refl refl) (between st q) (go st q x) refl
+      (session-right st q 0 (order.QueryRep (q .session)) (singled-session st q (q .session) 0 x) refl refl) (between st) (go st q x) refl
     where
       go : (st : State) (q : Round) → Singled st q → turns (leftFlags (r .flags) st) (repeated st (a .fresh)) ≡ turns (inverted (r .flags) (q .session)) state.Ready
       go st q (facts.acknowledged p n) = refl
@@ -450,7 +445,7 @@ module _ (a : Air) (r : Aside) (idle : Idle (layoutOf (a .image)) (a .image)) wh
       }
 
   ack-to : (st : State) (q : Round) (n : ℕ) → linkOf st .handle ≡ n → wrongCommand st (record { number = 0; order = order.Ack n }) ≡ false
-      → halvesRow (layoutOf (a .image)) (a .image) (linkOf st) (linkOf st .half) (part.To n) ≡ 0
+      → halvesOf (layoutOf (a .image)) (a .image) st (order.Ack n) ≡ 0
       → Does answerOf (layoutOf (a .image)) a r q 0 (order.Ack n) st (showsEpc (layoutOf (a .image)) a (acknowledged st))
   unfolding at shown
   ack-to st q n e w b =
@@ -476,7 +471,7 @@ module _ (a : Air) (r : Aside) (idle : Idle (layoutOf (a .image)) (a .image)) wh
       → Turns answerOf (layoutOf (a .image)) a r q 0 (order.Select c p) st (selectedFlags (r .flags) c b) (quiet state.Ready)
   unfolding at
   select-to st q c p b k h e =
-      comes-to st q 0 (order.Select c p) (turns (selectedFlags (r .flags) c b) state.Ready) (rw (not-killed st k, taken-choice c h)) (between st q)
+      comes-to st q 0 (order.Select c p) (turns (selectedFlags (r .flags) c b) state.Ready) (rw (not-killed st k, taken-choice c h)) (between st)
       (ap (λ (t : Bool). turns (selectedFlags (r .flags) c t) state.Ready) e) refl
 
   rounds : (q : Round) → Rounds answerOf (layoutOf (a .image)) a r q

@@ -3,9 +3,9 @@ use Prim.Native.Nat.{ℕ}
 use mathlib.Core.Path.{_≡_, refl, ap, _∙_}
 use mathlib.Core.Bool.{Bool, true, false, cond, not, _&&_, _||_}
 use mathlib.Core.List.{List, [], _∷_}
-use mathlib.Core.Logic.{inl, inr}
 use lib.Dec.{eqb}
 use lib.ListN.{take, drop}
+use borrow.Author.Tests.{eqb-true}
 use Rattle.bits.specs.First.{first}
 use Rattle.image.specs.declared.Layout.{Layout}
 use Rattle.states.specs.declared.Half.{Half}
@@ -14,7 +14,6 @@ use Rattle.states.specs.declared.Link.{Link}
 use Rattle.states.specs.declared.Part.{Part}
 use Rattle.states.specs.declared.Part.the-variants as part
 use Rattle.states.specs.Commands.{asksOf, linkOf, uncovered, killWord, accessWord, halvesRow}
-use Rattle.states.proofs.Gates.{Three, halves-three}
 use Rattle.stores.specs.Stores.{changeStores}
 use Rattle.tag.specs.Result.{Result}
 use Rattle.tag.specs.Table.{Input, layout, stateOf, command, halves, wrongPassword, brokenHalves, dropped, frameOf}
@@ -22,10 +21,12 @@ use Rattle.demands.specs.Former.{breaks, broken, formerly, Former}
 use Rattle.demands.proofs.Rows.{Rows}
 
 -- one number is not two
-three-apart : (n : ℕ) → Three n → eqb n 12 && eqb n 14 ≡ false
-three-apart n (inl e) = ap (λ (k : ℕ). eqb k 12 && eqb k 14) e
-three-apart n (inr (inl e)) = ap (λ (k : ℕ). eqb k 12 && eqb k 14) e
-three-apart n (inr (inr e)) = ap (λ (k : ℕ). eqb k 12 && eqb k 14) e
+not-two : (n : ℕ) → eqb n 12 && eqb n 14 ≡ false
+not-two n = go (eqb n 12) refl
+  where
+    go : (b : Bool) → eqb n 12 ≡ b → b && eqb n 14 ≡ false
+    go true e = ap (λ (k : ℕ). eqb k 14) (eqb-true n 12 e)
+    go false e = refl
 
 -- a password that is right, and an ACK with the handle
 right : (b : Bool) → eqb (cond b 0 12) 12 || eqb (cond b 0 12) 14 ≡ not b
@@ -72,7 +73,7 @@ pub former-so : Former
 unfolding frameOf logged
 former-so =
     record {
-      apart = λ i. three-apart (halves i) (halves-three (layout i) (i .image) (linkOf (stateOf i)) (linkOf (stateOf i) .half) (asksOf (command i .order) .part));
+      apart = λ i. not-two (halves i);
       together = were;
       order = λ i. refl;
       logs = λ i.

@@ -17,8 +17,6 @@ use Rattle.replies.specs.Pack.{filled, packed}
 use Rattle.replies.specs.Replies.{checked}
 use Rattle.rights.specs.Rights.{writeCode, lockedTo}
 use Rattle.stores.specs.Stores.{powerStores}
-use Rattle.states.specs.declared.Cover.the-variants as cover
-use Rattle.states.specs.declared.Half.{Half}
 use Rattle.states.specs.declared.Half.the-variants as half
 use Rattle.states.specs.declared.State.the-variants as state
 use Rattle.tag.specs.declared.Session.{Session}
@@ -28,7 +26,7 @@ use Rattle.tag.specs.Table.{frameOf}
 use Rattle.tag.specs.Port.{askOf, releaseOf, registerOf, readOf, writeOf}
 use Rattle.demands.specs.Calls.{Call, powerUp, frame, ask, release, register, read, write, answerOf}
 use Rattle.demands.specs.Cases.{Case, p, Hold}
-use Rattle.demands.specs.Worked.{query0, write3, write16, round, secured}
+use Rattle.demands.specs.Worked.{query0, write3, write16, round, waiting, secured}
 use Rattle.demands.specs.Ports.{holding, fourWords}
 use Rattle.demands.specs.Met.{kill1, kill2, access}
 
@@ -57,9 +55,6 @@ arbitrate = newSession (state.Arbitrate round 3)
 
 abbrev killed : Session
 killed = newSession state.Killed
-
-abbrev waiting : Half → Session
-waiting h = newSession (state.Secured (record { round = round; handle = 0x1234; cover = cover.Number 0x5A5A; half = h }))
 
 -- a call's number, with a session and an image; the number alone where it has no image
 abbrev number : Session → List ℕ → Call → List ℕ

@@ -50,10 +50,7 @@ framing f t register = answerOf t register
 framing f t (read at count room) = answerOf t (read at count room)
 framing f t (write at d s) = answerOf t (write at d s)
 
--- the right answer with another number, image, room or number of stores
-abbrev pub withNumber : ℕ → Result → Result
-withNumber n r = record { number = n; session = r .session; reply = r .reply; stores = r .stores; value = r .value; image = r .image; room = r .room }
-
+-- the right answer with another image, room or number of stores
 abbrev pub withImage : List ℕ → Result → Result
 withImage m r = record { number = r .number; session = r .session; reply = r .reply; stores = r .stores; value = r .value; image = m; room = r .room }
 

@@ -46,10 +46,11 @@ use Rattle.demands.specs.Calls.{awake, Program}
 use Rattle.demands.specs.Commands.{Demand2, answersTo, link}
 use Rattle.demands.specs.Facts.{Matches}
 use Rattle.demands.specs.Refusals.{Other, Refusals}
-use Rattle.demands.specs.Worked.{query0, write3, round}
+use Rattle.demands.specs.Worked.{query0, write3, round, waiting}
 use Rattle.demands.specs.Answers.{badSum}
+use Rattle.demands.specs.Former.{renumbered, formerly}
 use Rattle.demands.specs.Met.{air, met, access, once, s2B}
-use Rattle.demands.specs.Empty.{framing, withNumber, fresh, opened, must-write}
+use Rattle.demands.specs.Empty.{framing, fresh, opened, must-write}
 use Rattle.tag.specs.Steps.{input}
 use Rattle.stores.specs.Stores.{changeStores}
 use Rattle.demands.specs.Terms.{sealed}
@@ -68,15 +69,12 @@ takesAnyPassword = without 8
 abbrev pub hearsBetween : Program
 hearsBetween = without 9
 
--- the right answer, but for one number another
-abbrev renumbered : ℕ → ℕ → Program
-renumbered n k = framing (λ i. let r = firstOf (frameOf changeStores i) in cond (eqb (r .number) n) (withNumber k r) r)
-
+-- the right answer, but for one number another; the first answers as it did before 14
 abbrev pub callsBrokenWrong : Program
-callsBrokenWrong = renumbered 14 12
+callsBrokenWrong = framing (λ i. formerly (firstOf (frameOf changeStores i)))
 
 abbrev pub callsWrongBroken : Program
-callsWrongBroken = renumbered 12 14
+callsWrongBroken = framing (λ i. renumbered 12 14 (firstOf (frameOf changeStores i)))
 
 abbrev pub hearsWhileHeld : Program
 hearsWhileHeld = without 4
@@ -130,10 +128,8 @@ matchesEarly =
     framing (λ i. let r = firstOf (frameOf changeStores i) in cond (eqb (fieldAt (i .frame) 0 4) 8 && eqb (r .number) 0) (mixed i r (early i)) r)
 
 -- named inputs: a second half of Access in Secured, where 1111h waits as the upper half of the password 00000000h; P7's Write where the
--- right upper half waits, with another CRC-16, with another handle, and while the port is held; a Query of session 2, target A, in Acknowledged of that session
-abbrev waiting : ℕ → Session
-waiting up = awake (state.Secured (link round 0x1234 (cover.Number 0x5A5A) (half.Access up))) false fresh
-
+-- right upper half waits, with another CRC-16, with another handle, and while the port is held; a Query of session 2, target A, in
+-- Acknowledged of that session
 abbrev other : Session
 other = awake (state.Open (link round 0x4321 (cover.Number 0x5A5A) half.Nothing)) false fresh
 
@@ -144,10 +140,10 @@ abbrev acknowledged : Session
 acknowledged = awake (state.Acknowledged round 0xBEEF) false fresh
 
 record Numbers : Type 0 where
-  password : answersTo takesAnyPassword (air access 56) (waiting 0x1111) .number ≡ 0
-  between : answersTo hearsBetween (air write3 66) (waiting 0) .number ≡ 0
-  broken : answersTo callsBrokenWrong (air write3 66) (waiting 0) .number ≡ 12
-  mistyped : answersTo callsWrongBroken (air access 56) (waiting 0x1111) .number ≡ 14
+  password : answersTo takesAnyPassword (air access 56) (waiting (half.Access 0x1111)) .number ≡ 0
+  between : answersTo hearsBetween (air write3 66) (waiting (half.Access 0)) .number ≡ 0
+  broken : answersTo callsBrokenWrong (air write3 66) (waiting (half.Access 0)) .number ≡ 12
+  mistyped : answersTo callsWrongBroken (air access 56) (waiting (half.Access 0x1111)) .number ≡ 14
   handle : answersTo ignoresHandle (air write3 66) other .number ≡ 0
   checksum : answersTo ignoresChecksum (air badSum 66) opened .number ≡ 0
   held : answersTo hearsWhileHeld (air write3 66) (awake (state.Open (link round 0x1234 (cover.Number 0x5A5A) half.Nothing)) true fresh) .number ≡ 0
@@ -167,7 +163,8 @@ other-half : 0x1111 ≢ wordAt worked 20
 unfolding worked wordAt
 other-half e = omega (arith, e)
 
-must-refuse : (A : Program) → Refusals A → answersTo A (air access 56) (waiting 0x1111) .number ≡ 12
+-- what Refusals asks of any program: 12 to that Access, 14 to that Write
+must-refuse : (A : Program) → Refusals A → answersTo A (air access 56) (waiting (half.Access 0x1111)) .number ≡ 12
 must-refuse A d =
     ap (λ (r : Result). r .number) (d .dropped workedLayout (air access 56) fresh round (met .idle) .access true 0x1234 0x5A5A 0x1111 0x5A5A (met .access-half .0) (inl other-half))
 
@@ -178,7 +175,7 @@ password-caught d = let z : _≡_ {A = ℕ} 0 12 = sym (numbers .password) ∙ m
 write-other : Other (half.Access 0) (order.Write (span 3 3 1) 0xF197)
 write-other = (tt, λ e. let z : _≡_ {A = ℕ} 0 1 = cc in omega arith, λ h e. let z : _≡_ {A = ℕ} 0 1 = cc in omega arith)
 
-must-break : (A : Program) → Refusals A → answersTo A (air write3 66) (waiting 0) .number ≡ 14
+must-break : (A : Program) → Refusals A → answersTo A (air write3 66) (waiting (half.Access 0)) .number ≡ 14
 must-break A d =
     ap (λ (r : Result). r .number)
     (d .dropped workedLayout (air write3 66) fresh round (met .idle) .between true 0x1234 (cover.Number 0x5A5A) (half.Access 0) (order.Write (span 3 3 1) 0xF197) (met .write .0) tt write-other)

@@ -40,11 +40,14 @@ formerOf i =
     let t = frameOf changeStores i in
     record { rows = take 8 (t .rows) ++ (dropped i 12, broken i) ∷ drop 10 (t .rows); done = t .done }
 
--- an answer as an older log has it
+-- an answer with the number k where it has n; and as an older log has it
+abbrev pub renumbered : ℕ → ℕ → Result → Result
+renumbered n k r =
+    let number = cond (eqb (r .number) n) k (r .number) in
+    record { number = number; session = r .session; reply = r .reply; stores = r .stores; value = r .value; image = r .image; room = r .room }
+
 abbrev pub formerly : Result → Result
-formerly r =
-    let n = cond (eqb (r .number) 14) 12 (r .number) in
-    record { number = n; session = r .session; reply = r .reply; stores = r .stores; value = r .value; image = r .image; room = r .room }
+formerly r = renumbered 14 12 r
 
 -- the two never both apply, and together they are what 12 was; that table has the former order, and with 12 in the place of 14 every frame
 -- is answered as by it

@@ -18,6 +18,7 @@ use Rattle.rights.specs.Rights.{readCode, writeCode}
 use Rattle.stores.specs.Stores.{powerStores, changeStores}
 use Rattle.frames.specs.declared.Round.{Round}
 use Rattle.states.specs.declared.Cover.the-variants as cover
+use Rattle.states.specs.declared.Half.{Half}
 use Rattle.states.specs.declared.Half.the-variants as half
 use Rattle.states.specs.declared.State.the-variants as state
 use Rattle.states.specs.Commands.{plainLink}
@@ -80,9 +81,12 @@ block17 = 0xC7 ∷ 0xC0 ∷ 0x04 ∷ 0x40 ∷ 0x00 ∷ 0x00 ∷ 0x00 ∷ 0x40 �
 abbrev pub round : Round
 round = record { session = 2; q = 4 }
 
--- Secured, with the handle 1234h and the cover number 5A5Ah
+-- Secured, with the handle 1234h, the cover number 5A5Ah and a half that waits, or none
+abbrev pub waiting : Half → Session
+waiting h = newSession (state.Secured (record { round = round; handle = 0x1234; cover = cover.Number 0x5A5A; half = h }))
+
 abbrev pub secured : Session
-secured = newSession (state.Secured (record { round = round; handle = 0x1234; cover = cover.Number 0x5A5A; half = half.Nothing }))
+secured = waiting half.Nothing
 
 abbrev pub usedUp : Session
 usedUp = newSession (state.Secured (plainLink round 0x1234))

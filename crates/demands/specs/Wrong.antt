@@ -19,7 +19,6 @@ use Rattle.replies.specs.Pack.{filled, packed}
 use Rattle.replies.specs.Replies.{checked}
 use Rattle.rights.specs.Rights.{writeCode}
 use Rattle.frames.specs.declared.Round.{Round}
-use Rattle.states.specs.declared.Cover.{Cover}
 use Rattle.states.specs.declared.Cover.the-variants as cover
 use Rattle.states.specs.declared.Half.the-variants as half
 use Rattle.states.specs.declared.State.the-variants as state
@@ -30,9 +29,10 @@ use Rattle.states.specs.Commands.{linkOf}
 use Rattle.tag.specs.Power.{powerUpOf}
 use Rattle.tag.specs.Table.{liveOf, frameOf}
 use Rattle.tag.specs.Port.{bitOf, askOf, releaseOf, registerOf, readOf}
-use Rattle.demands.specs.Worked.{query0, write3, write16, round, usedUp, sent, powered}
+use Rattle.demands.specs.Worked.{query0, write3, write16, round, waiting, usedUp, sent, powered}
 use Rattle.demands.specs.Ports.{holding, reads, registers}
 use Rattle.demands.specs.Met.{block2, access}
+use Rattle.demands.specs.Commands.{link}
 use Rattle.tag.specs.Steps.{input, gives}
 use Rattle.stores.specs.Stores.{changeStores}
 
@@ -100,24 +100,24 @@ read-killed e = let z : _≡_ {A = ℕ} 0 6 = sym (ap (λ (r : Result). wordAt (
 pub read-short : firstOf (readOf (holding state.Ready false false) worked 2 2 (replicate 3 0xFF)) .number ≡ 0 → ⊥
 read-short e = let z : _≡_ {A = ℕ} 4 0 = sym (ap (λ (r : Result). r .number) (reads .no-room)) ∙ e in omega arith
 
--- Write ABCDh to USER 3 while an upper half of Access waits; and to a tag whose port is held
-abbrev waiting : Cover → ℕ → Session
-waiting c up = newSession (state.Secured (record { round = round; handle = 0x1234; cover = c; half = half.Access up }))
-
-abbrev between : Cover → Result
-between c = firstOf (frameOf changeStores (input (waiting c 0) worked write3 66 0 (replicate 12 0xAA) 5))
-
 -- Access's lower half, where an upper half waits that is not the password's
 abbrev mistyped : Result
-mistyped = firstOf (frameOf changeStores (input (waiting (cover.Number 0x5A5A) 0x1111) worked access 56 0 (replicate 12 0xAA) 5))
+mistyped = firstOf (frameOf changeStores (input (waiting (half.Access 0x1111)) worked access 56 0 (replicate 12 0xAA) 5))
+
+-- Write ABCDh to USER 3 while an upper half of Access waits; and to a tag whose port is held
+abbrev between : Session → Result
+between s = firstOf (frameOf changeStores (input s worked write3 66 0 (replicate 12 0xAA) 5))
+
+abbrev uncovered : Session
+uncovered = newSession (state.Secured (link round 0x1234 cover.Nothing (half.Access 0)))
 
 abbrev whileHeld : List ℕ → Result
 whileHeld m = firstOf (frameOf changeStores (input (holding state.Ready false false) m write3 66 0 (replicate 12 0xAA) 5))
 
 pub record Frames : Type 0 where
   -- without a cover number it is 9, with one 14
-  pub bare : between cover.Nothing .number ≡ 9
-  pub broken : between (cover.Number 0x5A5A) .number ≡ 14
+  pub bare : between uncovered .number ≡ 9
+  pub broken : between (waiting (half.Access 0)) .number ≡ 14
   -- a wrong password is 12
   pub wrong : mistyped .number ≡ 12
   -- with a word pending it is 5, else 6
@@ -133,14 +133,14 @@ unfolding frameOf layoutOf headerGood blocksIn contentGood rulesHold worked word
 frames = record { bare = refl; broken = refl; wrong = refl; pending = refl; held = refl; error = refl; whole = refl }
 
 -- 12 for broken halves, and 14 for a wrong password
-pub broken-as-wrong : between (cover.Number 0x5A5A) .number ≡ 12 → ⊥
+pub broken-as-wrong : between (waiting (half.Access 0)) .number ≡ 12 → ⊥
 broken-as-wrong e = let z : _≡_ {A = ℕ} 14 12 = sym (frames .broken) ∙ e in omega arith
 
 pub wrong-as-broken : mistyped .number ≡ 14 → ⊥
 wrong-as-broken e = let z : _≡_ {A = ℕ} 12 14 = sym (frames .wrong) ∙ e in omega arith
 
 -- 14 before 9, and 6 before 5
-pub broken-first : between cover.Nothing .number ≡ 14 → ⊥
+pub broken-first : between uncovered .number ≡ 14 → ⊥
 broken-first e = let z : _≡_ {A = ℕ} 9 14 = sym (frames .bare) ∙ e in omega arith
 
 pub held-first : whileHeld (pendingOne 17 1) .number ≡ 6 → ⊥

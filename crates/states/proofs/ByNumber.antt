@@ -27,7 +27,7 @@ use Rattle.states.specs.Commands.{asksOf, linkOf, wasAcknowledged, isLin
 use Rattle.states.specs.Inventory.{flagAt, withFlag, inverted, queriedFlags, matches, acknowledged, flagAfter, selectedFlags}
 use Rattle.states.specs.Steps.{gateOf, picked}
 use Rattle.states.specs.Numbers.{coveredIn, coverIn, flagsIn, halfIn, upperIn, numbersWith}
-use Rattle.states.specs.ByNumber.{hearsIn, wrongIn, waitingRow, gateIn, securedIn, usedIn, halvedIn, numberedIn, acknowledgedIn, bitFor, isSet, flagIn, invertedIn, turnedBy, selectedBy, queriedIn, meant, matchesIn, idleIn, leftIn, selectedIn}
+use Rattle.states.specs.ByNumber.{hearsIn, wrongIn, halvesIn, gateIn, securedIn, usedIn, halvedIn, numberedIn, acknowledgedIn, bitFor, isSet, flagIn, invertedIn, turnedBy, selectedBy, queriedIn, meant, matchesIn, idleIn, leftIn, selectedIn}
 
 covered-in : (c : Cover) → eqb (coveredIn c) 0 ≡ not (isCovered c)
 covered-in cover.Nothing = refl
@@ -52,8 +52,8 @@ bare-in (cover.Number n) w = refl
 
 module _ (y : Layout) (m : List ℕ) (h g : ℕ) (f : Flags) (st : State) where
   -- by the half that waits
-  halves-in : (a : Half) (p : Part) → linkOf st .half ≡ a → cond (eqb (halfIn a) 0) 0 (waitingRow y m (numbersWith h g f st) p) ≡ halvesRow y m (linkOf st) a p
-  halves-in half.Nothing p e = refl
+  halves-in : (a : Half) (p : Part) → linkOf st .half ≡ a → halvesIn y m (numbersWith h g f st) p ≡ halvesRow y m (linkOf st) a p
+  halves-in half.Nothing p e = rw e
   halves-in (half.Access up) part.Between e = rw e
   halves-in (half.Access up) (part.Access w) e = rw (e, bare-in (linkOf st .cover) w)
   halves-in (half.Access up) (part.Kill w) e = rw e

@@ -87,11 +87,11 @@ killRow y m v (part.Kill h) = cond (eqb (v .upper) (killWord y m 0) && eqb (bare
 killRow y m v (part.To n) = cond (eqb (v .number) n) 14 0
 killRow y m v part.Other = 14
 
-abbrev pub waitingRow : Layout → List ℕ → Numbers → Part → ℕ
-waitingRow y m v p = cond (eqb (v .half) 1) (accessRow y m v p) (killRow y m v p)
+abbrev pub halvesIn : Layout → List ℕ → Numbers → Part → ℕ
+halvesIn y m v p = cond (eqb (v .half) 0) 0 (cond (eqb (v .half) 1) (accessRow y m v p) (killRow y m v p))
 
 abbrev pub gateIn : Layout → List ℕ → Numbers → ℕ → Order → ℕ
-gateIn y m v n o = gateBy (wrongIn v n (asksOf o)) (cond (eqb (v .half) 0) 0 (waitingRow y m v (asksOf o .part)))
+gateIn y m v n o = gateBy (wrongIn v n (asksOf o)) (halvesIn y m v (asksOf o .part))
 
 -- what commands leave
 abbrev pub usedIn : Numbers → Numbers

@@ -5,7 +5,7 @@ ghost use Prim.Native.Nat.{_≤_};
 ghost use lib.Dec.{eqb};
 ghost use lib.ListN.{length};
 ghost use Rattle.image.specs.Layout.{layoutOf};
-ghost use Rattle.states.specs.ByNumber.{past as pastOf, hearsIn, bareOf, wrongIn, accessRow, killRow, waitingRow, gateIn};
+ghost use Rattle.states.specs.ByNumber.{past as pastOf, hearsIn, bareOf, wrongIn, accessRow, killRow, halvesIn, gateIn};
 use crate::Asks;
 use crate::Numbers;
 use crate::Part;
@@ -67,7 +67,7 @@ fn second_half(upper: bool, lower: bool) -> u8
     12
 }
 
-// An ACK between the halves breaks them where its number is the handle. Of a frame it is asked in `tag`, by numbers alone.
+// An ACK between the halves breaks them where its number is the handle. Frames never come here with one: `tag::inventory::ack` answers it.
 fn ack_row(v: Numbers, n: u16) -> u8
     ensures { λ r. ⌜ r ≡ cond (eqb (v .number) n) 14 0 ⌝ }
 {
@@ -109,11 +109,14 @@ fn kill_row(image: &[u8], y: Layout, v: Numbers, part: Part) -> u8
     }
 }
 
-// Answer 12, a wrong password, or 14, broken halves, or 0, while an upper half waits.
+// Answer 12, a wrong password, or 14, broken halves, or 0.
 fn halves_row(image: &[u8], v: Numbers, part: Part) -> u8
     requires { ⌜ 32 ≤ length (now image) ⌝ }
-    ensures { λ r. ⌜ r ≡ waitingRow (layoutOf (now (image .entry))) (now (image .entry)) v part ⌝ }
+    ensures { λ r. ⌜ r ≡ halvesIn (layoutOf (now (image .entry))) (now (image .entry)) v part ⌝ }
 {
+    if v.half == 0 {
+        return 0;
+    }
     let y = image::read_layout(image);
     if v.half == 1 {
         return access_row(image, y, v, part);
@@ -129,9 +132,6 @@ pub fn gate(v: Numbers, n: u16, image: &[u8], order: Order) -> u8
     let a = asks_of(order);
     if is_wrong(v, n, a) {
         return 9;
-    }
-    if v.half == 0 {
-        return 0;
     }
     let part = a.part;
     halves_row(image, v, part)

@@ -45,7 +45,7 @@ use Rattle.states.specs.Inventory.{inverted, drawn, slotFrom, queriedFlags, mat
 use Rattle.states.specs.Numbers.{halfIn, upperIn, flagsIn}
 use Rattle.states.specs.Steps.{gateBy, wrongCommand}
 use Rattle.states.specs.ByNumber.{bareTo, bareOf, usedIn, halvedIn, fallenIn, acknowledgedIn, idleIn, leftIn, matchesIn, slotOut, selectedIn}
-use Rattle.states.proofs.Gates.{Named, passes-heard, passes-handle, Three, halves-three}
+use Rattle.states.proofs.Gates.{Named, passes-heard, passes-handle, halves-between, Three, halves-three}
 use Rattle.states.proofs.ByNumber.{gate-in, bare-in, used-in, halved-in, secured-in, numbered-in, acknowledged-in, left-in, selected-in, queried-in, matches-in}
 use Rattle.plans.specs.declared.Plan.{Plan}
 use Rattle.plans.specs.declared.Plan.the-variants as plan
@@ -126,11 +126,6 @@ module _ (l : Live) (m room : List ℕ) (w s : ℕ) where
 
 -- orders of inventory
 module _ (l : Live) (y : Layout) (m f : List ℕ) (fresh : ℕ) (room : List ℕ) (s : ℕ) where
-  between : (k : Link) (a : Half) → halvesRow y m k a part.Between ≡ 0
-  between k half.Nothing = refl
-  between k (half.Access up) = refl
-  between k (half.Kill up) = refl
-
   -- a command, by what its halves say
   by-halves : (c : Command) (t : ℕ) → halvesOf y m (l .state) (c .order) ≡ t
       → inNumbers (commandOf l y m f fresh room s c)
@@ -155,7 +150,7 @@ module _ (l : Live) (y : Layout) (m f : List ℕ) (fresh : ℕ) (room : List ℕ
   unfolding repAt
   rep-by k =
       go (inRound (l .state) && eqb (linkOf (l .state) .round .session) k) (wasAcknowledged (l .state))
-      ∙ sym (by-halves (toAll (order.QueryRep k)) 0 (between (linkOf (l .state)) (linkOf (l .state) .half)))
+      ∙ sym (by-halves (toAll (order.QueryRep k)) 0 (halves-between y m (linkOf (l .state)) (linkOf (l .state) .half)))
     where
       go : (b c : Bool)
           → cond (not b) (stays 9 (numbersOn l) m room)
@@ -173,7 +168,7 @@ module _ (l : Live) (y : Layout) (m f : List ℕ) (fresh : ℕ) (room : List ℕ
   unfolding adjustAt
   adjust-by k u =
       go (inRound (l .state) && eqb (linkOf (l .state) .round .session) k) (badUpDn u) (wasAcknowledged (l .state))
-      ∙ sym (by-halves (toAll (order.QueryAdjust k u)) 0 (between (linkOf (l .state)) (linkOf (l .state) .half)))
+      ∙ sym (by-halves (toAll (order.QueryAdjust k u)) 0 (halves-between y m (linkOf (l .state)) (linkOf (l .state) .half)))
     where
       q : Round
       q = record { session = linkOf (l .state) .round .session; q = adjustedQ u (linkOf (l .state) .round .q) }
@@ -197,7 +192,7 @@ module _ (l : Live) (y : Layout) (m f : List ℕ) (fresh : ℕ) (room : List ℕ
       ap (λ (x : ℕ). by x (matchesIn x sel t (q .session))) (queried-in (bitOf (l .held)) (numberIn (l .register)) (l .flags) (l .state) (q .session))
       ∙ ap (by (flagsIn after-first)) (matches-in after-first sel t (q .session))
       ∙ go (isKilled (l .state)) (matches after-first sel t (q .session))
-      ∙ sym (by-halves (toAll (order.Query sel t q)) 0 (between (linkOf (l .state)) (linkOf (l .state) .half)))
+      ∙ sym (by-halves (toAll (order.Query sel t q)) 0 (halves-between y m (linkOf (l .state)) (linkOf (l .state) .half)))
     where
       after-first : Flags
       after-first = queriedFlags (l .flags) (l .state) (q .session)
@@ -218,7 +213,7 @@ module _ (l : Live) (y : Layout) (m f : List ℕ) (fresh : ℕ) (room : List ℕ
 
   select-by : (c : Choice) (p : ℕ) → selectAt y (numbersOn l) c p m f room ≡ inNumbers (commandOf l y m f fresh room s (toAll (order.Select c p)))
   unfolding selectAt
-  select-by c p = go (isKilled (l .state)) (badChoice c) ∙ sym (by-halves (toAll (order.Select c p)) 0 (between (linkOf (l .state)) (linkOf (l .state) .half)))
+  select-by c p = go (isKilled (l .state)) (badChoice c) ∙ sym (by-halves (toAll (order.Select c p)) 0 (halves-between y m (linkOf (l .state)) (linkOf (l .state) .half)))
     where
       match : Bool
       match = selects y m f (c .bits) p

@@ -31,7 +31,7 @@ use Rattle.tag.specs.declared.Answer.{Answer}
 use Rattle.tag.specs.declared.Answer.the-variants as answer
 use Rattle.tag.specs.declared.Outcome.{Outcome}
 use Rattle.tag.specs.Session.{offSession, newSession}
-use Rattle.tag.specs.Result.{Left, Result, leaves, lost, result}
+use Rattle.tag.specs.Result.{Left, Result, leaves, lost}
 use Rattle.states.specs.Commands.{linkOf, halvesOf, used, fallen}
 use Rattle.states.specs.Steps.{wrongCommand}
 use Rattle.plans.specs.Effects.{Scene, Effect, effectOf}
@@ -133,14 +133,13 @@ sceneOf l y m f fresh = record { layout = y; image = m; flags = l .flags; state 
 abbrev pub orderOf : Live → Layout → List ℕ → List ℕ → ℕ → List ℕ → ℕ → Order → Result
 orderOf l y m f fresh room s o = let x = effectOf (sceneOf l y m f fresh) o in endBy (x .code) l (y .work .at) m room s x
 
-abbrev pub droppedWith : Live → Answer → Outcome
-droppedWith l a = record { answer = a; session = movedTo l (fallen (l .state)); reply = 0; stores = 0; value = 0 }
+-- back to Arbitrate
+abbrev pub fell : ℕ → Live → List ℕ → List ℕ → Result
+fell n l m room = leaves n (movedTo l (fallen (l .state))) m room
 
 -- by the number that its halves say: a wrong password, broken halves, or what the order leaves
 abbrev pub halvesBy : ℕ → Live → List ℕ → List ℕ → Result → Result
-halvesBy n l m room x =
-    cond (eqb n 12) (result (droppedWith l answer.Password) m room)
-    (cond (eqb n 14) (result (droppedWith l answer.Halves) m room) x)
+halvesBy n l m room x = cond (eqb n 12) (fell 12 l m room) (cond (eqb n 14) (fell 14 l m room) x)
 
 -- a command whose frame is whole
 unfoldable pub commandOf : Live → Layout → List ℕ → List ℕ → ℕ → List ℕ → ℕ → Command → Result
