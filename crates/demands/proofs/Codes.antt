@@ -1,6 +1,6 @@
 -- The error codes as facts: which one applies, in the rules' order. Assumes nothing.
 use Prim.Native.Nat.{ℕ, _+_, _-_, _*_, _%_, _≤_, _<_}
-use mathlib.Core.Path.{_≡_, refl, ap, ap₂, _∙_}
+use mathlib.Core.Path.{_≡_, refl, sym, ap, ap₂, _∙_}
 use mathlib.Core.Logic.{_≢_, _⊎_, inl, inr}
 use mathlib.Core.Bool.{Bool, true, false, cond, not, _&&_, _||_}
 use mathlib.Core.List.{List}
@@ -13,13 +13,13 @@ use Rattle.bits.proofs.Below.{every-not, every-all}
 use Rattle.image.specs.declared.Section.{Section}
 use Rattle.image.specs.declared.Layout.{Layout}
 use Rattle.image.specs.Layout.{blocksIn, pairsIn}
-use Rattle.image.specs.Content.{lockWord, lengthOf, permalock}
+use Rattle.image.specs.Content.{lockWord, lengthOf, pcWord, permalock}
 use Rattle.frames.specs.Frames.{span}
 use Rattle.rights.specs.declared.Code.the-variants as code
 use Rattle.rights.specs.declared.Fault.the-variants as fault
-use Rattle.rights.specs.Rights.{bankOf, pwdBit, permaBit, mayRead, mayWrite, beyond, badPc, spanWords, readCode, writeCode, lockedTo, lockCode, pairBreaks, somePermalock, userOpenForGood, notPerma, permaReadCode, permaCode}
+use Rattle.rights.specs.Rights.{bankOf, pwdBit, permaBit, mayRead, mayWrite, beyond, badPc, readEnd, spanWords, readCode, writeCode, lockedTo, lockCode, pairBreaks, somePermalock, userOpenForGood, notPerma, permaReadCode, permaCode}
 use Rattle.demands.proofs.Rights.{reads-if, reads-not, writes-if, writes-not}
-use Rattle.demands.specs.Facts.{MayRead, MayWrite, Within, Past, TakesPc, AllRight, Readable, Writable, Lockable, PermaLockable}
+use Rattle.demands.specs.Facts.{MayRead, MayWrite, Within, Past, Ends, Shows, TakesPc, AllRight, Readable, Writable, Lockable, PermaLockable}
 
 pub or-right : (a b : Bool) → b ≡ true → a || b ≡ true
 or-right true b e = refl
@@ -36,19 +36,30 @@ past-beyond s b p n (inr l) = or-right (leb (s .words) p) (ltb (s .words) (p + n
 within-beyond : (s : Section) (b p n : ℕ) → Within (s .words) p n → beyond s (span b p n) ≡ false
 within-beyond s b p n w = ap₂ (λ (t u : Bool). t || u) (lt-leb (s .words) p (w .0)) (le-ltb (s .words) (p + n) (w .1))
 
+-- the words that a Read shows
+module _ (y : Layout) (m : List ℕ) (b p : ℕ) where
+  abbrev by-end : Bool → Bool → ℕ
+  by-end epc low = cond (epc && low) (lengthOf (pcWord y m) + 2) (bankOf y b .words)
+
+  ends-so : (e : ℕ) → Ends y m b p e → readEnd y m b p ≡ e
+  ends-so e (inl d) = ap₂ by-end (eq-eqb b 1 (d .0)) (lt-ltb p (lengthOf (pcWord y m) + 2) (d .1)) ∙ sym (d .2)
+  ends-so e (inr (inl d)) = ap₂ by-end (eq-eqb b 1 (d .0)) (le-ltb p (lengthOf (pcWord y m) + 2) (d .1)) ∙ sym (d .2)
+  ends-so e (inr (inr d)) = ap (λ (t : Bool). by-end t (ltb p (lengthOf (pcWord y m) + 2))) (ne-eqb b 1 (d .0)) ∙ sym (d .1)
+
+  pub words-shown : (n k : ℕ) → Shows y m b p n k → spanWords y m (span b p n) ≡ k
+  words-shown n k (inl d) = ap (λ (t : Bool). cond t (readEnd y m b p - p) n) (ne-eqb n 0 (omega (arith, d .0))) ∙ sym (d .1)
+  words-shown n k (inr d) = ap (λ (t : Bool). cond t (readEnd y m b p - p) n) (eq-eqb n 0 (d .0)) ∙ omega (arith, ends-so (p + k) (d .1))
+
 module _ (y : Layout) (m : List ℕ) (q : Bool) (b p n : ℕ) where
   pub read-past : Past (bankOf y b .words) p n → readCode y m q (span b p n) ≡ code.Error fault.PastEnd
   unfolding readCode
   read-past f = rw (past-beyond (bankOf y b) b p n f)
 
-  pub read-right : (j : ℕ) → Within (bankOf y b .words) p n → (j < n) ⊎ ((n ≡ 0) × (p + j < bankOf y b .words)) → (MayRead y m q b (p + j) → ⊥)
+  pub read-right : (k j : ℕ) → Within (bankOf y b .words) p n → Shows y m b p n k → j < k → (MayRead y m q b (p + j) → ⊥)
       → readCode y m q (span b p n) ≡ code.Error fault.NoRight
   unfolding readCode
-  read-right j w d e = rw (within-beyond (bankOf y b) b p n w, every-not (λ i. mayRead y m q b (p + i)) (spanWords y m (span b p n)) j (inside d) (reads-not y m q b (p + j) e))
-    where
-      inside : (j < n) ⊎ ((n ≡ 0) × (p + j < bankOf y b .words)) → j < spanWords y m (span b p n)
-      inside (inl l) = rw (ne-eqb n 0 (omega arith)) l
-      inside (inr z) = rw (eq-eqb n 0 (z .0)) (omega (arith, z .1))
+  read-right k j w d l e =
+      rw (within-beyond (bankOf y b) b p n w, every-not (λ i. mayRead y m q b (p + i)) (spanWords y m (span b p n)) j (rw (words-shown y m b p n k d) l) (reads-not y m q b (p + j) e))
 
   module _ (pc : ℕ) where
     pub write-past : Past (bankOf y b .words) p n → writeCode y m q (span b p n) pc ≡ code.Error fault.PastEnd
@@ -162,14 +173,10 @@ module _ (y : Layout) (m : List ℕ) (f : List ℕ) (p n at : ℕ) where
           go false z = lt-ltb (16 * p + k) (blocksIn y) (g k i (eqb-false (bitAt f (at + k)) 0 z))
 
 -- and no code where none is due
-pub read-clear : (y : Layout) (m : List ℕ) (q : Bool) (b p n : ℕ) → Readable y m q b p n → readCode y m q (span b p n) ≡ code.Nothing
+pub read-clear : (y : Layout) (m : List ℕ) (q : Bool) (b p n k : ℕ) → Readable y m q b p n k → readCode y m q (span b p n) ≡ code.Nothing
 unfolding readCode
-read-clear y m q b p n r =
-    rw (within-beyond (bankOf y b) b p n (r .within), every-all (λ i. mayRead y m q b (p + i)) (spanWords y m (span b p n)) (λ j l. reads-if y m q b (p + j) (r .right j (inside (eqb n 0) refl l))))
-  where
-    inside : {j : ℕ} (t : Bool) → eqb n 0 ≡ t → j < cond (eqb n 0) (bankOf y b .words - p) n → (j < n) ⊎ ((n ≡ 0) × (p + j < bankOf y b .words))
-    inside {j} true e l = let k : j < bankOf y b .words - p = rw e at l in inr (eqb-true n 0 e, omega (arith, k))
-    inside {j} false e l = inl (rw e at l)
+read-clear y m q b p n k r =
+    rw (within-beyond (bankOf y b) b p n (r .within), every-all (λ i. mayRead y m q b (p + i)) (spanWords y m (span b p n)) (λ j l. reads-if y m q b (p + j) (r .right j (rw (words-shown y m b p n k (r .shows)) at l))))
 
 pub write-clear : (y : Layout) (m : List ℕ) (q : Bool) (b p n pc : ℕ) → Writable y m q b p n pc → writeCode y m q (span b p n) pc ≡ code.Nothing
 unfolding writeCode

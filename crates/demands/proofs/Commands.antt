@@ -1,5 +1,5 @@
 -- Demand 2: where no refusal applies, the table gives its last row; command by command. Assumes nothing.
-use Prim.Native.Nat.{ℕ, _+_, _-_, _*_, _/_, _%_, _^_, _≤_}
+use Prim.Native.Nat.{ℕ, _+_, _*_, _/_, _%_, _^_, _≤_}
 use mathlib.Core.Path.{_≡_, refl, sym, ap, ap₂, _∙_, subst}
 use mathlib.Core.Logic.{_≢_, _⊎_, inl, inr}
 use mathlib.Core.Bool.{true≢false, Bool, true, false, cond, not, _&&_}
@@ -28,7 +28,7 @@ use Rattle.replies.specs.Replies.{replyBits, replyLength}
 use Rattle.replies.specs.Steps.{replyBytes}
 use Rattle.replies.specs.Pack.{packed}
 use Rattle.replies.proofs.Laws.{length-reply}
-use Rattle.rights.specs.Rights.{bankOf, spanWords}
+use Rattle.rights.specs.Rights.{bankOf}
 use Rattle.rights.specs.declared.Code.{Code}
 use Rattle.rights.specs.declared.Code.the-variants as code
 use Rattle.rights.specs.declared.Fault.the-variants as fault
@@ -63,7 +63,7 @@ use Rattle.demands.specs.Commands.{Air, answersTo, linked, link, registe
 use Rattle.demands.proofs.Rows.{Rows, None, none-first}
 use Rattle.demands.proofs.Cuts.{started-so}
 use Rattle.demands.proofs.Rounds.{slotted-session, singled-session, first-step, matches-so, matches-not, adjusts-so, says-up-down, counts-so, selects-so, selects-not, taken-choice}
-use Rattle.demands.proofs.Codes.{and-false, read-clear, write-clear, lock-clear, perma-read-clear, perma-clear}
+use Rattle.demands.proofs.Codes.{and-false, words-shown, read-clear, write-clear, lock-clear, perma-read-clear, perma-clear}
 
 -- states by name
 not-killed : (st : State) → st ≢ state.Killed → isKilled st ≡ false
@@ -266,7 +266,7 @@ module _ (a : Air) (r : Aside) (q : Round) (idle : Idle (layoutOf (a .image)) (a
   some : (n : ℕ) → 1 ≤ n → eqb n 0 ≡ false
   some n l = ne-eqb n 0 (λ e. omega arith)
 
-  -- the state that Req_RN opens, by the access password; and words of a Read
+  -- the state that Req_RN opens, by the access password
   numbered-so : Bool → Result
   numbered-so t =
       let k = link q (a .fresh) cover.Nothing half.Nothing in
@@ -275,11 +275,6 @@ module _ (a : Air) (r : Aside) (q : Round) (idle : Idle (layoutOf (a .image)) (a
   nonzero : (u v : ℕ) → (u ≢ 0) ⊎ (v ≢ 0) → eqb u 0 && eqb v 0 ≡ false
   nonzero u v (inl d) = ap (λ (t : Bool). t && eqb v 0) (ne-eqb u 0 d)
   nonzero u v (inr d) = ap (λ (t : Bool). eqb u 0 && t) (ne-eqb v 0 d) ∙ and-false (eqb u 0)
-
-  words-read : (b p n k : ℕ) → ((1 ≤ n) × (k ≡ n)) ⊎ ((n ≡ 0) × (p + k ≡ bankOf (layoutOf (a .image)) b .words)) → spanWords (layoutOf (a .image)) (a .image) (span b p n) ≡ k
-  words-read b p n k (inl d) = ap (λ (t : Bool). cond t (bankOf (layoutOf (a .image)) b .words - p) n) (ne-eqb n 0 (omega (arith, d .0))) ∙ sym (d .1)
-  words-read b p n k (inr d) =
-      ap (λ (t : Bool). cond t (bankOf (layoutOf (a .image)) b .words - p) n) (eq-eqb n 0 (d .0)) ∙ (let z = d .1 in omega (arith, z))
 
   -- a kill password, and a right one
   no-code : {b : Bool} → b ≡ false → cond b (code.Error fault.Other) code.Nothing ≡ code.Nothing
@@ -304,12 +299,12 @@ module _ (a : Air) (r : Aside) (q : Round) (idle : Idle (layoutOf (a .image)) (a
           | false ↦ λ h c p. open-done a r q idle (link q h c p) order.ReqRn tt refl refl refl (halves-between (layoutOf (a .image)) (a .image) (link q h c p) p) refl
         ];
         read = elim [
-          | true ↦ λ h c b p n k e d.
-              subst (λ (z : ℕ). Does answerOf (layoutOf (a .image)) a r q h (order.Read (span b p n)) (state.Secured (link q h c half.Nothing)) (record { state = state.Secured (link q h cover.Nothing half.Nothing); reply = reply.Words (bankOf (layoutOf (a .image)) b .at + p) z h; words = [] })) (words-read b p n k d)
-              (secured-done a r q idle (link q h c half.Nothing) (order.Read (span b p n)) tt refl refl refl (read-clear (layoutOf (a .image)) (a .image) true b p n e))
-          | false ↦ λ h c b p n k e d.
-              subst (λ (z : ℕ). Does answerOf (layoutOf (a .image)) a r q h (order.Read (span b p n)) (state.Open (link q h c half.Nothing)) (record { state = state.Open (link q h cover.Nothing half.Nothing); reply = reply.Words (bankOf (layoutOf (a .image)) b .at + p) z h; words = [] })) (words-read b p n k d)
-              (open-done a r q idle (link q h c half.Nothing) (order.Read (span b p n)) tt refl refl refl refl (read-clear (layoutOf (a .image)) (a .image) false b p n e))
+          | true ↦ λ h c b p n k e.
+              subst (λ (z : ℕ). Does answerOf (layoutOf (a .image)) a r q h (order.Read (span b p n)) (state.Secured (link q h c half.Nothing)) (record { state = state.Secured (link q h cover.Nothing half.Nothing); reply = reply.Words (bankOf (layoutOf (a .image)) b .at + p) z h; words = [] })) (words-shown (layoutOf (a .image)) (a .image) b p n k (e .shows))
+              (secured-done a r q idle (link q h c half.Nothing) (order.Read (span b p n)) tt refl refl refl (read-clear (layoutOf (a .image)) (a .image) true b p n k e))
+          | false ↦ λ h c b p n k e.
+              subst (λ (z : ℕ). Does answerOf (layoutOf (a .image)) a r q h (order.Read (span b p n)) (state.Open (link q h c half.Nothing)) (record { state = state.Open (link q h cover.Nothing half.Nothing); reply = reply.Words (bankOf (layoutOf (a .image)) b .at + p) z h; words = [] })) (words-shown (layoutOf (a .image)) (a .image) b p n k (e .shows))
+              (open-done a r q idle (link q h c half.Nothing) (order.Read (span b p n)) tt refl refl refl refl (read-clear (layoutOf (a .image)) (a .image) false b p n k e))
         ];
         write = elim [
           | true ↦ λ h c b p w e. secured-done a r q idle (link q h (cover.Number c) half.Nothing) (order.Write (span b p 1) w) tt refl refl refl (write-clear (layoutOf (a .image)) (a .image) true b p 1 (bitXor w c) e)

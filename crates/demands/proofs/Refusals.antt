@@ -727,7 +727,7 @@ module _ (a : Air) (r : Aside) (rd : Round) (idle : Idle (layoutOf (a .image)) (
     error-lines q h c =
         record {
           read-past = λ b p n s f. says-10 q h c (order.Read (span b p n)) fault.PastEnd s tt l (codes.read-past (layoutOf (a .image)) (a .image) q b p n f);
-          read-right = λ b p n j s w d e. says-10 q h c (order.Read (span b p n)) fault.NoRight s tt l (codes.read-right (layoutOf (a .image)) (a .image) q b p n j w d e);
+          read-right = λ b p n k j s w d i e. says-10 q h c (order.Read (span b p n)) fault.NoRight s tt l (codes.read-right (layoutOf (a .image)) (a .image) q b p n k j w d i e);
           write-past = λ o b p n pc s f d.
               says-10 q h c o fault.PastEnd s (brings-needs o q c b p n pc f) l (brings-code o q c b p n pc f ∙ codes.write-past (layoutOf (a .image)) (a .image) q b p n pc d);
           write-right = λ o b p n pc j s f w i e.

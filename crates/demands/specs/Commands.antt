@@ -198,9 +198,9 @@ module _ (A : Program) (y : Layout) (a : Air) (r : Aside) (q : Round) where
           reply = reply.Number (a .fresh);
           words = [];
         })
-    -- Read: k words, where nothing is against it: those that it asks for, or with WordCount 0 all to the bank's end
-    pub read : (secured : Bool) (h : ℕ) (c : Cover) (b p n k : ℕ) → Readable y (a .image) secured b p n
-        → ((1 ≤ n) × (k ≡ n)) ⊎ ((n ≡ 0) × (p + k ≡ bankOf y b .words))
+    -- Read, where nothing is against it: the words that it asks for; with WordCount 0 all to the bank's end, or in EPC, if the pointer lies
+    -- below L + 2, those to word L + 1
+    pub read : (secured : Bool) (h : ℕ) (c : Cover) (b p n k : ℕ) → Readable y (a .image) secured b p n k
         → Does h (order.Read (span b p n)) (linked secured (link q h c half.Nothing))
         (record { state = linked secured (plainLink q h); reply = reply.Words (bankOf y b .at + p) k h; words = [] })
     -- Write: the word without its cover, which is used up

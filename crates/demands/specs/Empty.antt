@@ -1,7 +1,6 @@
 -- Empty programs fall (RULES 7.3), each to the demand that rules it out, at a named input. Assumes nothing.
 use Prim.Native.Nat.{ℕ, _≤_}
 use mathlib.Core.Path.{_≡_, refl, sym, ap, _∙_}
-use mathlib.Core.Logic.{inl}
 use mathlib.Core.Bool.{false}
 use mathlib.Core.List.{List, [], _∷_, _++_}
 use native.Mathlib.Omega.{arith}
@@ -102,7 +101,7 @@ pub must-write : (A : Program) → Demand2 A → answersTo A (air write3 66) ope
 must-write A d = d .radio workedLayout (air write3 66) fresh round (met .idle) .write false 0x1234 0x5A5A 3 3 0xF197 (met .write-right) (met .write .0) (met .write .1)
 
 pub must-read : (A : Program) → Demand2 A → answersTo A (air readTwo 58) opened ≡ reads
-must-read A d = d .radio workedLayout (air readTwo 58) fresh round (met .idle) .read false 0x1234 (cover.Number 0x5A5A) 3 2 2 2 (met .read-right) (inl (lit≤ tt, refl)) (met .read .0) (met .read .1)
+must-read A d = d .radio workedLayout (air readTwo 58) fresh round (met .idle) .read false 0x1234 (cover.Number 0x5A5A) 3 2 2 2 (met .read-right) (met .read .0) (met .read .1)
 
 record Computed : Type 0 where
   written : getD (writes .room) 0 0 ≡ 0x09

@@ -9,7 +9,7 @@ use Rattle.bits.specs.Words.{Store}
 use Rattle.bits.specs.Bits.{bitAt}
 use Rattle.image.specs.declared.Layout.{Layout}
 use Rattle.image.specs.Layout.{blocksIn, pairsIn}
-use Rattle.image.specs.Content.{lockWord, lengthOf, permalock}
+use Rattle.image.specs.Content.{lockWord, lengthOf, pcWord, permalock}
 use Rattle.frames.specs.declared.Round.{Round}
 use Rattle.frames.specs.declared.Choice.{Choice}
 use Rattle.rights.specs.Rights.{bankOf, pwdBit, permaBit, lockedTo}
@@ -52,10 +52,21 @@ TakesPc b p n = (b ≡ 1) × (p ≤ 1) × (1 < p + n)
 abbrev pub AllRight : Layout → List ℕ → Bool → ℕ → ℕ → ℕ → Type 0
 AllRight y m secured b p n = (j : ℕ) → j < n → MayWrite y m secured b (p + j)
 
--- a Read of n words, or to the bank's end where n is 0: within the bank, and each word may be read
-pub record Readable (y : Layout) (m : List ℕ) (secured : Bool) (b p n : ℕ) : Type 0 where
+-- e is the word before which a Read of bank b with WordCount 0 ends: in EPC L + 2, if its pointer p lies below it; from there on, and in
+-- the other banks, the bank's end
+abbrev pub Ends : Layout → List ℕ → ℕ → ℕ → ℕ → Type 0
+Ends y m b p e = let l = lengthOf (pcWord y m) in
+    ((b ≡ 1) × (p < l + 2) × (e ≡ l + 2)) ⊎ ((b ≡ 1) × (l + 2 ≤ p) × (e ≡ bankOf y b .words)) ⊎ ((b ≢ 1) × (e ≡ bankOf y b .words))
+
+-- a Read of n words shows k: those that it asks for, or with WordCount 0 all to where it ends
+abbrev pub Shows : Layout → List ℕ → ℕ → ℕ → ℕ → ℕ → Type 0
+Shows y m b p n k = ((1 ≤ n) × (k ≡ n)) ⊎ ((n ≡ 0) × Ends y m b p (p + k))
+
+-- a Read of n words that shows k: within the bank, and each of the k may be read
+pub record Readable (y : Layout) (m : List ℕ) (secured : Bool) (b p n k : ℕ) : Type 0 where
   pub within : Within (bankOf y b .words) p n
-  pub right : (j : ℕ) → (j < n) ⊎ ((n ≡ 0) × (p + j < bankOf y b .words)) → MayRead y m secured b (p + j)
+  pub shows : Shows y m b p n k
+  pub right : (j : ℕ) → j < k → MayRead y m secured b (p + j)
 
 -- words written: within the bank, each with its right, a PC that fits, and at most W of them
 pub record Writable (y : Layout) (m : List ℕ) (secured : Bool) (b p n pc : ℕ) : Type 0 where

@@ -8,6 +8,7 @@
 --   hears frames while the port is held      Refusals: unready .held
 --   answers 9 before 8            Refusals: unheard .checksum
 --   uses up no cover number       Demand 2: radio .write
+--   reads the EPC to the bank's end with WordCount 0                  Demand 2: radio .read
 --   matches a Query by the flag as it was before it is inverted       Demand 2: radio .rounds .query-passes
 use Prim.Native.Nat.{ℕ, suc, _-_}
 use mathlib.Core.Path.{_≡_, refl, sym, ap, _∙_}
@@ -32,7 +33,7 @@ use Rattle.frames.specs.Message as heard
 use Rattle.frames.specs.Frames.{span, heardOf, checksumRight, checksum5Right}
 use Rattle.replies.specs.Pack.{filled, packed}
 use Rattle.replies.specs.Replies.{checked}
-use Rattle.rights.specs.Rights.{writeCode}
+use Rattle.rights.specs.Rights.{readCode, writeCode}
 use Rattle.states.specs.declared.Cover.the-variants as cover
 use Rattle.states.specs.declared.Half.the-variants as half
 use Rattle.states.specs.declared.State.the-variants as state
@@ -46,10 +47,11 @@ use Rattle.demands.specs.Calls.{awake, Program}
 use Rattle.demands.specs.Commands.{Demand2, answersTo, link}
 use Rattle.demands.specs.Facts.{Matches}
 use Rattle.demands.specs.Refusals.{Other, Refusals}
-use Rattle.demands.specs.Worked.{query0, write3, round, waiting}
+use Rattle.demands.specs.Worked.{query0, write3, round, waiting, secured}
 use Rattle.demands.specs.Answers.{badSum}
 use Rattle.demands.specs.Former.{renumbered, formerly}
 use Rattle.demands.specs.Met.{air, met, access, once, s2B}
+use Rattle.demands.specs.Reads.{stale, longRead, must-stop}
 use Rattle.demands.specs.Empty.{framing, fresh, opened, must-write}
 use Rattle.tag.specs.Steps.{input}
 use Rattle.stores.specs.Stores.{changeStores}
@@ -111,6 +113,17 @@ abbrev pub keepsCover : Program
 keepsCover =
     framing (λ i. let r = firstOf (frameOf changeStores i) in record { number = r .number; session = i .session; reply = r .reply; stores = r .stores; value = 0; image = r .image; room = r .room })
 
+-- takes a Read of the EPC with WordCount 0, its pointer of one byte, as one of all words to the bank's end
+abbrev toEnd : Input → List ℕ
+toEnd i =
+    let f = i .frame in
+    let n = layoutOf (i .image) .epc .words - fieldAt f 10 8 in
+    cond (eqb (i .bits) 58 && checksumRight f 58 && eqb (fieldAt f 0 10) 0x309 && eqb (fieldAt f 18 8) 0)
+    (packed (sealed (bitsFrom f 0 18 ++ bitsOf 8 n ++ bitsFrom f 26 16)) f) f
+
+abbrev pub readsStale : Program
+readsStale = framing (λ i. firstOf (frameOf changeStores (input (i .session) (i .image) (toEnd i) (i .bits) (i .fresh) (i .room) (i .power))))
+
 -- what a tag in Ready, which inverts no flag, comes to by a Query; but with the flags of the right answer
 abbrev early : Input → Result
 early i = firstOf (frameOf changeStores (input (movedTo (live i) state.Ready) (i .image) (i .frame) (i .bits) (i .fresh) (i .room) (i .power)))
@@ -129,7 +142,7 @@ matchesEarly =
 
 -- named inputs: a second half of Access in Secured, where 1111h waits as the upper half of the password 00000000h; P7's Write where the
 -- right upper half waits, with another CRC-16, with another handle, and while the port is held; a Query of session 2, target A, in
--- Acknowledged of that session
+-- Acknowledged of that session; a Read of the EPC from word 0 on, where stale words follow it
 abbrev other : Session
 other = awake (state.Open (link round 0x4321 (cover.Number 0x5A5A) half.Nothing)) false fresh
 
@@ -150,10 +163,11 @@ record Numbers : Type 0 where
   first : answersTo nineBeforeEight (air badSum 66) arbitrate .number ≡ 9
   wrong : heardOf badSum 66 ≡ heard.refused 8
   flag : answersTo matchesEarly (air query0 22) acknowledged .reply ≡ 16
+  words : answersTo readsStale longRead secured .reply ≡ 161
 
 numbers : Numbers
-unfolding frameOf layoutOf headerGood blocksIn contentGood rulesHold worked wordAt withWord wordsBits bitsOf crcOf fieldAt pointerAt heardOf checksumRight checksum5Right crc5Of filled packed checked writeCode query0 write3 access
-numbers = record { password = refl; between = refl; broken = refl; mistyped = refl; handle = refl; checksum = refl; held = refl; first = refl; wrong = refl; flag = refl }
+unfolding frameOf layoutOf headerGood blocksIn contentGood rulesHold worked wordAt withWord wordsBits bitsOf crcOf fieldAt pointerAt heardOf checksumRight checksum5Right crc5Of filled packed checked readCode writeCode query0 write3 access stale
+numbers = record { password = refl; between = refl; broken = refl; mistyped = refl; handle = refl; checksum = refl; held = refl; first = refl; wrong = refl; flag = refl; words = refl }
 
 -- the handle is 1234h, not 4321h; the password's upper half is 0, not 1111h
 other-handle : _≢_ {A = ℕ} 0x1234 0x4321
@@ -233,6 +247,9 @@ flag-caught d =
     ∙ ap (λ (r : Result). r .reply)
     (d .radio workedLayout (air query0 22) fresh round (met .idle) .rounds .query-passes (state.Acknowledged round 0xBEEF) 0 0 once s2B not-killed (met .rounds .first-inverts) not-A (met .rounds .query-replies .0) (lit≤ tt, lit≤ tt)) in
     omega arith
+
+pub stale-caught : Demand2 readsStale → ⊥
+stale-caught d = let z : _≡_ {A = ℕ} 161 97 = sym (numbers .words) ∙ must-stop readsStale d in omega arith
 
 -- a session's cover number: there or not
 abbrev coverIn : Session → ℕ

@@ -1,4 +1,4 @@
--- Answer 12 as it was before broken halves got 14 (RULES 5.14), so that older logs can be read. Assumes nothing.
+-- Answer 12 as it was before broken halves got 14 (RULES 5.14), so that a 12 in older logs can be read. Assumes nothing.
 use Prim.Native.Nat.{ℕ}
 use mathlib.Core.Path.{_≡_}
 use mathlib.Core.Bool.{Bool, true, false, cond, not, _&&_, _||_}

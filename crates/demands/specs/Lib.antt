@@ -13,6 +13,7 @@ pub mod Rounds
 pub mod Torn
 pub mod Met
 pub mod Empty
+pub mod Reads
 pub mod Answers
 pub mod Refusals
 pub mod Faults

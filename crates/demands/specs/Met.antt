@@ -246,7 +246,7 @@ pub record Met : Type 0 where
   pub req-rn : Comes reqRn 40 0xBEEF order.ReqRn (reply.Number 0x5678) []
   pub req-rn-cover : Comes reqCover 40 0x1234 order.ReqRn (reply.Number 0x5678) []
   pub read : Comes readTwo 58 0x1234 (order.Read (span 3 2 2)) (reply.Words 30 2 0x1234) []
-  pub read-right : Readable workedLayout worked false 3 2 2
+  pub read-right : Readable workedLayout worked false 3 2 2 2
   pub write : Comes write3 66 0x1234 (order.Write (span 3 3 1) 0xF197) (reply.Success 0x1234) (store 31 0xABCD ∷ [])
   pub write-right : Writable workedLayout worked false 3 3 1 0xABCD
   pub kill-first : Comes kill1 59 0x1234 (order.Kill 0x1113) (reply.Number 0x1234) []
@@ -285,7 +285,7 @@ met =
       req-rn = (refl, (lit≤ tt, lit≤ tt));
       req-rn-cover = (refl, (lit≤ tt, lit≤ tt));
       read = (refl, (lit≤ tt, lit≤ tt));
-      read-right = record { within = (lit< tt, lit≤ tt); right = λ j l. inl three };
+      read-right = record { within = (lit< tt, lit≤ tt); shows = inl (lit≤ tt, refl); right = λ j l. inl three };
       write = (refl, (lit≤ tt, lit≤ tt));
       write-right = writable 3 1 0xABCD (lit< tt) (lit≤ tt) refl refl (lit≤ tt);
       kill-first = (refl, (lit≤ tt, lit≤ tt));

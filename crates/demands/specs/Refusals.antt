@@ -35,7 +35,7 @@ use Rattle.tag.specs.Result.{Result, leaves}
 use Rattle.states.specs.Commands.{plainLink, accessWord, killWord}
 use Rattle.demands.specs.Calls.{Call, powerUp, ask, release, register, read, write, Aside, awake, Tag, Program, asked, Idle}
 use Rattle.demands.specs.Demands.{Storing, lasting}
-use Rattle.demands.specs.Facts.{MayRead, MayWrite, Within, Past, TakesPc, AllRight, Slotted, InRound, Takeable}
+use Rattle.demands.specs.Facts.{MayRead, MayWrite, Within, Past, Shows, TakesPc, AllRight, Slotted, InRound, Takeable}
 use Rattle.demands.specs.Commands.{Air, answersTo, linked, link, Says, pcSent}
 
 -- everything as before
@@ -199,8 +199,8 @@ module _ (A : Program) (y : Layout) (a : Air) (r : Aside) (q : Round) (secured :
     -- Read
     pub read-past : (b p n : ℕ) → Says a h (order.Read (span b p n)) → Past (bankOf y b .words) p n
         → Gets 0x03
-    pub read-right : (b p n j : ℕ) → Says a h (order.Read (span b p n)) → Within (bankOf y b .words) p n
-        → (j < n) ⊎ ((n ≡ 0) × (p + j < bankOf y b .words)) → (MayRead y (a .image) secured b (p + j) → ⊥)
+    pub read-right : (b p n k j : ℕ) → Says a h (order.Read (span b p n)) → Within (bankOf y b .words) p n
+        → Shows y (a .image) b p n k → j < k → (MayRead y (a .image) secured b (p + j) → ⊥)
         → Gets 0x04
     -- the writing commands, in order: past the end, a word that lacks the right, a PC whose length doesn't fit, more words than W
     pub write-past : (o : Order) (b p n pc : ℕ) → Says a h o → Brings a c o b p n pc → Past (bankOf y b .words) p n

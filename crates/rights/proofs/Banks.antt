@@ -1,5 +1,5 @@
--- Where the header has a bank, and where the banks end. Assumes nothing.
-use Prim.Native.Nat.{ℕ, zero, suc, _≤_}
+-- Where the header has a bank, and where banks and Reads end. Assumes nothing.
+use Prim.Native.Nat.{ℕ, zero, suc, _+_, _≤_}
 use mathlib.Core.Path.{_≡_, refl}
 use mathlib.Core.Bool.{Bool, true, false, cond}
 use mathlib.Core.List.{List}
@@ -8,8 +8,9 @@ use lib.Dec.{eqb, ltb}
 use borrow.Author.Tests.{le-ltb, ne-eqb}
 use Rattle.image.specs.declared.Layout.{Layout}
 use Rattle.image.specs.Layout.{sectionAt, layoutOf, end}
+use Rattle.image.specs.Content.{lengthOf, pcWord}
 use Rattle.image.specs.Rules.{Header}
-use Rattle.rights.specs.Rights.{bankOf}
+use Rattle.rights.specs.Rights.{bankOf, readEnd}
 use Rattle.rights.specs.Steps.{entryOf}
 
 -- a bank as the header has it is the layout's
@@ -34,3 +35,13 @@ bank-end y m b h = go (eqb b 0) (eqb b 1) (eqb b 2)
     go false true r = omega arith
     go false false true = omega arith
     go false false false = omega arith
+
+-- a Read ends with its bank or before, where L + 2 is at most the EPC count
+pub read-ends : (y : Layout) (m : List ℕ) (b p : ℕ) → lengthOf (pcWord y m) + 2 ≤ y .epc .words → readEnd y m b p ≤ bankOf y b .words
+read-ends y m zero p l = omega arith
+read-ends y m (suc zero) p l = go (ltb p (lengthOf (pcWord y m) + 2))
+  where
+    go : (t : Bool) → cond t (lengthOf (pcWord y m) + 2) (y .epc .words) ≤ y .epc .words
+    go true = l
+    go false = omega arith
+read-ends y m (suc (suc b)) p l = rw (ne-eqb (suc (suc b)) 1 (λ e. omega arith)) (omega arith)

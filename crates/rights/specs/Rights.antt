@@ -10,7 +10,7 @@ use Rattle.bits.specs.First.{first}
 use Rattle.image.specs.declared.Section.{Section}
 use Rattle.image.specs.declared.Layout.{Layout}
 use Rattle.image.specs.Layout.{blocksIn, pairsIn}
-use Rattle.image.specs.Content.{lockWord, lengthOf, permalock}
+use Rattle.image.specs.Content.{lockWord, lengthOf, pcWord, permalock}
 use Rattle.frames.specs.declared.Span.{Span}
 use Rattle.rights.specs.declared.Code.{Code}
 use Rattle.rights.specs.declared.Code.the-variants.{Nothing, Error}
@@ -58,9 +58,13 @@ mayWrite y m secured b i =
     && not (eqb b 1 && eqb i 0)
     && (not (eqb b 3) || blockOpen y m i)
 
--- the words that a Read of a span shows: to the bank's end where the count is 0
+-- 3.20: the word before which a Read of bank b with WordCount 0 ends: in EPC L + 2, if its pointer p lies below it; else the bank's end
+abbrev pub readEnd : Layout → List ℕ → ℕ → ℕ → ℕ
+readEnd y m b p = let l = lengthOf (pcWord y m) in cond (eqb b 1 && ltb p (l + 2)) (l + 2) (bankOf y b .words)
+
+-- the words that a Read of a span shows
 abbrev pub spanWords : Layout → List ℕ → Span → ℕ
-spanWords y m s = cond (eqb (s .count) 0) (bankOf y (s .bank) .words - s .pointer) (s .count)
+spanWords y m s = cond (eqb (s .count) 0) (readEnd y m (s .bank) (s .pointer) - s .pointer) (s .count)
 
 -- a pointer at or beyond the end of the bank b, or words past it
 abbrev pub beyond : Section → Span → Bool

@@ -8,7 +8,7 @@ ghost use Rattle.bits.specs.Below.{every};
 ghost use lib.ListN.{length};
 ghost use Rattle.image.specs.Layout.{layoutOf, blocksIn};
 ghost use Rattle.image.specs.Content.{permalock as permalockOf};
-ghost use Rattle.rights.specs.Rights.{faultNumber, bankOf, pwdBit, permaBit, opens as opensOf, pairOf, blockOpen, mayWrite, spanWords, beyond as beyondOf, badPc, readCode, writeCode, lockedTo, pairBreaks, somePermalock, userOpenForGood, lockCode, notPerma, permaReadCode, permaCode};
+ghost use Rattle.rights.specs.Rights.{faultNumber, bankOf, pwdBit, permaBit, opens as opensOf, pairOf, blockOpen, mayWrite, readEnd, spanWords, beyond as beyondOf, badPc, readCode, writeCode, lockedTo, pairBreaks, somePermalock, userOpenForGood, lockCode, notPerma, permaReadCode, permaCode};
 ghost use Rattle.rights.specs.Steps.{firstLocked, restOpen, entryOf};
 use bits::both;
 use bits::either;
@@ -244,14 +244,31 @@ fn may_write(image: &[u8], y: Layout, secured: bool, b: u16, p: usize, n: usize)
     rest_open(image, y, b, p, n)
 }
 
-// The words that a Read of a span shows: to the bank's end where the count is 0.
+// The word before which a Read of bank b with WordCount 0 ends: in EPC L + 2, if its pointer p lies below it; else the bank's end.
+fn read_end(image: &[u8], b: u16, p: usize) -> usize
+    requires { ⌜ 32 ≤ length (now image) ⌝ }
+    ensures { λ r. ⌜ (r ≡ readEnd (layoutOf (now (image .entry))) (now (image .entry)) b p) × (r < 65536) ⌝ }
+{
+    let words = bank_in(image, b).words as usize;
+    if b != 1 {
+        return words;
+    }
+    let y = image::read_layout(image);
+    let end = bits::word(image, y.epc.at as usize + 1) as usize / 2048 + 2;
+    if p < end {
+        return end;
+    }
+    words
+}
+
+// The words that a Read of a span shows.
 pub fn span_words(image: &[u8], s: Span) -> usize
     requires { ⌜ 32 ≤ length (now image) ⌝ }
     ensures { λ r. ⌜ (r ≡ spanWords (layoutOf (now (image .entry))) (now (image .entry)) s) × (r < 65536) ⌝ }
 {
     if s.count == 0 {
-        let b = bank_in(image, s.bank);
-        return minus(b.words as usize, s.pointer as usize);
+        let p = s.pointer as usize;
+        return minus(read_end(image, s.bank, p), p);
     }
     s.count as usize
 }

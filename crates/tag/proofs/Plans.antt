@@ -21,14 +21,14 @@ use Rattle.replies.proofs.Laws.{packed-none}
 use Rattle.stores.specs.Stores.{changeStores}
 use Rattle.stores.specs.Steps.{Made}
 use Rattle.bits.specs.Words.{Store}
-use Rattle.rights.proofs.Banks.{bank-end as Banks·bank-end}
+use Rattle.rights.proofs.Banks.{bank-end as Banks·bank-end, read-ends}
 use Rattle.rights.specs.declared.Code.{Code}
 use Rattle.rights.specs.declared.Code.the-variants as code
 use Rattle.rights.specs.declared.Fault.{Fault}
 use Rattle.rights.specs.declared.Fault.the-variants as fault
 use Rattle.bits.specs.Bits.{bitAt, fieldAt}
 use Rattle.bits.specs.Below.{every}
-use Rattle.rights.specs.Rights.{bankOf, beyond, mayWrite, badPc, spanWords, readCode, writeCode, lockedTo, pairBreaks, lockCode, notPerma, permaReadCode, permaCode}
+use Rattle.rights.specs.Rights.{bankOf, beyond, mayWrite, badPc, readEnd, spanWords, readCode, writeCode, lockedTo, pairBreaks, lockCode, notPerma, permaReadCode, permaCode}
 use Rattle.changes.specs.Changes.{Holds}
 use Rattle.plans.specs.declared.Plan.{Plan}
 use Rattle.plans.specs.declared.Plan.the-variants as plan
@@ -116,18 +116,20 @@ module _ (y : Layout) (h : List ℕ) (g : Header y h) where
   unfolding lockCode
   lock-rows m mask action e = not-false _ (none-row (not (every (λ k. not (pairBreaks (lockWord y m) (lockedTo (lockWord y m) mask action) k)) 5)) fault.NoRight _ e .0)
 
-  span-end : (m : List ℕ) (s : Span) → beyond (bankOf y (s .bank)) s ≡ false → s .pointer + spanWords y m s ≤ bankOf y (s .bank) .words
-  span-end m s e = go (eqb (s .count) 0)
+  span-end : (m : List ℕ) (s : Span) → lengthOf (pcWord y m) + 2 ≤ y .epc .words → beyond (bankOf y (s .bank)) s ≡ false
+      → s .pointer + spanWords y m s ≤ bankOf y (s .bank) .words
+  span-end m s l e = go (eqb (s .count) 0)
     where
-      go : (b : Bool) → s .pointer + cond b (bankOf y (s .bank) .words - s .pointer) (s .count) ≤ bankOf y (s .bank) .words
-      go true = omega (arith, within-bank s e)
+      go : (b : Bool) → s .pointer + cond b (readEnd y m (s .bank) (s .pointer) - s .pointer) (s .count) ≤ bankOf y (s .bank) .words
+      go true = omega (arith, within-bank s e, read-ends y m (s .bank) (s .pointer) l)
       go false = omega (arith, within-bank s e)
 
   module _ (m : List ℕ) (q : Bool) where
     -- the words of a Read, and of a BlockPermalock that reads
-    pub read-fits : (s : Span) → readCode y m q s ≡ code.Nothing → (2 * (placeOf y s + spanWords y m s) ≤ length h) × (spanWords y m s < 65536)
-    read-fits s e =
-        let r = span-end m s (read-rows m q s e) in
+    pub read-fits : (s : Span) → lengthOf (pcWord y m) + 2 ≤ y .epc .words → readCode y m q s ≡ code.Nothing
+        → (2 * (placeOf y s + spanWords y m s) ≤ length h) × (spanWords y m s < 65536)
+    read-fits s l e =
+        let r = span-end m s l (read-rows m q s e) in
         (omega (arith, r, bank-end (s .bank), g .whole), omega (arith, r, bank-end (s .bank), work-small))
 
     pub read-perma-fits : (s : Span) → permaReadCode y s ≡ code.Nothing → (2 * (y .perma .at + s .pointer + s .count) ≤ length h) × (s .count < 65536)
@@ -232,7 +234,7 @@ module _ (y : Layout) (m f : List ℕ) (good : Good y m) where
   plan-sound v (order.Select c p) q = tt
   plan-sound v order.Nak q = tt
   plan-sound v order.ReqRn q = tt
-  plan-sound v (order.Read s) q = code-sound _ _ (readCode y m (eqb (v .state) 6) s) _ (read-fits y m g m (eqb (v .state) 6) s)
+  plan-sound v (order.Read s) q = code-sound _ _ (readCode y m (eqb (v .state) 6) s) _ (read-fits y m g m (eqb (v .state) 6) s (good .content 0 .pc))
   plan-sound v (order.Write s w) q = code-sound _ _ (writeCode y m (eqb (v .state) 6) s (bareOf v w)) _ (word-held y m g m (eqb (v .state) 6) s _)
   plan-sound v (order.Kill h) q = kill-sound (eqb (v .half) 0) (zeroKill y m) (bareOf v h)
   plan-sound v (order.Lock mask action) q = code-sound _ _ (lockCode y m mask action) _ (λ e. lock-held y m g)
