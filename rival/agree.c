@@ -199,6 +199,7 @@ static void command_random(struct frame *f, const uint8_t *m, const struct tag_s
     if (s->half && one_in(2)) code = s->half == TAG_ACCESS_HALF ? 0xC6 : 0xC4;
     unsigned bank = below(4), words = word(m, 5 + 2 * bank), least = 1 + below(3) * below(2), count = one_in(3) ? below(256) : below(20);
     unsigned at = one_in(3) ? below(words + 3) : below(words < 4 ? words + 1 : 4);
+    if (code == 0xC2 && one_in(3)) count = 0;
     frame_bits(f, code, 8);
     if (code == 0xC0 && !one_in(3)) return;
     switch (code) {

@@ -499,11 +499,17 @@ static int reserved_open(unsigned lock, unsigned from, unsigned n, int secured) 
     return from + n <= 2 || open_pair(lock, 1, secured);
 }
 
+/* the word before which a Read with WordCount 0 ends: in EPC L + 2, if its pointer lies below it; else the bank's end */
+static unsigned read_end(bytes m, const struct rival_layout *y, const struct command *c, unsigned words) {
+    unsigned end = (word(m, y->epc + 1) >> 11) + 2;
+    return c->bank == 1 && c->pointer < end ? end : words;
+}
+
 static int read_error(bytes m, const struct rival_layout *y, int secured, struct command *c) {
     unsigned at, words;
     bank_of(y, c->bank, &at, &words);
     if (c->pointer >= words) return 3;
-    if (!c->count) c->count = words - c->pointer;
+    if (!c->count) c->count = read_end(m, y, c, words) - c->pointer;
     if (c->pointer + c->count > words) return 3;
     if (c->bank == 0 && !reserved_open(word(m, 16), c->pointer, c->count, secured)) return 4;
     return NO_ERROR;
