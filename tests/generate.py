@@ -20,6 +20,11 @@ CASES = 32
 # Which halves are wrong where a password is: the upper, the lower.
 WRONG_HALVES = {(True, False): "upper", (False, True): "lower", (True, True): "both", (False, False): "none"}
 
+# What can move L in the image held, and how; zeros make no code longer.
+MOVERS = ("Write", "BlockWrite", "BlockErase", "power")
+MOVES = ("longer", "shorter")
+NEVER = ("BlockErase", "longer")
+
 
 # The cases of a list with this number: each list of a seed has the next ones of one long row.
 def cases_for(seed, number):
@@ -39,6 +44,9 @@ class Maker:
         self.written = []
         self.situations = []            # before each line
         self.wrong = []                 # for each line, which halves were wrong, or None
+        self.epc_reads = []             # for each line, which Read of EPC it was, or None
+        self.moved = None               # what moved L last in the image held, and how
+        self.after_moves = []           # the same, for each Read of EPC that meets it
         self.bench = model.Bench()
         self.slips = 4                  # of a hundred numbers, so many are wrong
         self.size = chance.choice(["smallest", "small", "small", "middle", "middle", "edge", "largest"])
@@ -63,11 +71,13 @@ class Maker:
     # Writes a line and brings the bench forward.
     def put(self, line):
         line = line if isinstance(line, bytes) else line.encode("ascii")
-        before = self.session
+        before, length = self.session, self.code_length()
         self.lines.append(line)
         self.situations.append(possible.situation_of(before))
         self.written.append(self.bench.line(line))
         self.wrong.append(self.wrong_half(before, line))
+        self.note_move(line, length)
+        self.note_epc_read(before, line)
 
     # Where the line just written was answered 12: the state, the half that waited, and which were wrong. It is
     # asked of the words sent and of the image, not of the model's rule.
@@ -82,6 +92,22 @@ class Maker:
         wrong = tuple(word != self.section_word("RESERVED", first + k)
                       for k, word in enumerate((before.half[1], sent ^ before.cover)))
         return before.state, half, WRONG_HALVES[wrong]
+
+    # Keeps what moved L, seeing L before the line just written; another image lets it go.
+    def note_move(self, line, length):
+        if line.startswith(b"image "):
+            self.moved = None
+        elif self.code_length() != length:
+            mover = "power" if line.startswith(b"power ") else model.NAMES[model.read_frame(*self.frame_of(line)).code]
+            self.moved = mover, "longer" if self.code_length() > length else "shorter"
+
+    # Keeps which Read of EPC the line just written was; and where it ended after word L + 1, what had moved L.
+    def note_epc_read(self, before, line):
+        answer = self.bench.answer.number if self.bench.answer else None
+        case = possible.epc_read_case(before.state, self.bench.image, line, answer)
+        self.epc_reads.append(case)
+        if self.moved and case and answer == 0 and case[2] in possible.IN_CODE:
+            self.after_moves.append(self.moved)
 
     # The bit count and the bytes of a frame line.
     @staticmethod
@@ -108,6 +134,10 @@ class Maker:
     def section_word(self, section, n):
         at = self.layout().offset[section] + n
         return model.word(self.bench.image, at) if 2 * at + 2 <= len(self.bench.image) else 0
+
+    # L, as it stands in the image held.
+    def code_length(self):
+        return model.pc_length(self.section_word("EPC", 1))
 
     # ----------------------------------------------------------------- images
 
@@ -365,13 +395,13 @@ class Maker:
             return model.Answer(refusal.number, self.session)
 
     # The reply room, seeing how many bytes it needs.
-    def room(self, need):
-        if need and self.now_and_then(4):
+    def room(self, need, small_percent=4):
+        if need and self.now_and_then(small_percent):
             return self.chance.choice([need - 1, need - 1, 0, self.chance.randrange(need)])
         return self.one_of((need, 4), (need + 1, 2), (max(need, 8), 3), (min(9604, need + 60), 1))
 
-    # Sends a frame, now and then spoilt.
-    def send(self, bits, fresh=None):
+    # Sends a frame, now and then spoilt; its room is too small, its power lost, in so many of a hundred cases.
+    def send(self, bits, fresh=None, small_percent=4, cut_percent=10):
         fresh = self.any_word() if fresh is None else fresh
         if self.now_and_then(6):
             self.send_spoilt(bits, fresh)
@@ -380,8 +410,8 @@ class Maker:
         data = build.pack(bits, self.chance.choice("0001"))
         if self.now_and_then(3):
             data += bytes(self.chance.randrange(256) for _ in range(self.chance.randrange(1, 4)))
-        self.put(build.frame_line(bits, fresh, self.room(-(-len(answer.reply) // 8)),
-                                  self.stores(len(answer.made)), data=data))
+        self.put(build.frame_line(bits, fresh, self.room(-(-len(answer.reply) // 8), small_percent),
+                                  self.stores(len(answer.made), cut_percent), data=data))
 
     # Sends a frame with length, code, CRC or bit count wrong.
     def send_spoilt(self, bits, fresh):
@@ -766,6 +796,59 @@ class Maker:
     def kill(self):
         self.halves(self.kill_bits, 0, 45)
 
+    # ------------------------------------------------------------ Reads of EPC
+
+    # A pointer into EPC: about word L + 1, about the bank's end, or any.
+    def code_pointer(self):
+        chance, count, code_end = self.chance, self.bank_count(BANK_EPC), self.code_length() + 2
+        behind = chance.randrange(code_end, max(code_end, count) + 1)
+        return self.one_of((0, 3), (1, 2), (2, 2), (chance.randrange(code_end), 3), (code_end - 1, 5), (code_end, 5),
+                           (code_end + 1, 3), (behind, 4), (count - 1, 2), (count, 2), (count + 1, 1), (0x1FFFFF, 0.3))
+
+    # A Read of EPC with WordCount 0; now and then of another bank, or with all words to the bank's end counted.
+    def long_read(self):
+        pointer = self.code_pointer()
+        bank = self.one_of((BANK_EPC, 18), (BANK_TID, 1), (BANK_USER, 0.5), (BANK_RESERVED, 0.5))
+        count = min(255, max(0, self.bank_count(bank) - pointer)) if self.now_and_then(10) else 0
+        self.send(build.read(bank, pointer, count, self.number(), self.groups()), small_percent=18)
+
+    # The PC written, alone or with words after it, or erased: another L as a rule.
+    def move_length(self):
+        count = self.bank_count(BANK_EPC)
+        words = [self.pc(count, good=True)] + [self.any_word() for _ in range(self.chance.randrange(count - 1))]
+        how = self.one_of(("Write", 3), ("BlockWrite", 3), ("BlockErase", 1))
+        if how == "Write":
+            self.take_cover()
+            bits = build.write(BANK_EPC, 1, words[0], self.cover(), self.number(), self.groups())
+        elif how == "BlockWrite":
+            bits = build.block_write(BANK_EPC, 1, words, self.number(), self.groups())
+        else:
+            bits = build.block_erase(BANK_EPC, 1, 1, self.number(), self.groups())
+        self.send(bits, cut_percent=25)
+
+    # The image held with L so small that stale words stand behind word L + 1, where EPC has room for any.
+    def shorten_code(self):
+        image, layout, chance = bytearray(self.bench.image), self.layout(), self.chance
+        if len(image) < 2 * layout.offset["WORK"]:
+            return
+        most = max(0, layout.count["EPC"] - 3)
+        length = chance.choice([0, most, chance.randrange(most + 1)])
+        model.put_word(image, layout.offset["EPC"] + 1, length << 11 | chance.randrange(0x800))
+        self.put(build.image_line(image))
+
+    # Some Reads of EPC in a row, L moved between them; a tag that is lost on the way is found again.
+    def long_reads(self):
+        if self.now_and_then(60):
+            self.shorten_code()
+        for _ in range(self.chance.randrange(3, 9)):
+            self.one_of((self.long_read, 5), (self.move_length, 1))()
+            if self.state == "off":
+                self.power()
+            if self.state in ("ready", "arbitrate"):
+                self.enter_surely()
+            if self.state not in possible.LINKED:
+                return
+
     # --------------------------------------------------------------- SPI port
 
     def spi_read(self):
@@ -1077,13 +1160,15 @@ class Maker:
 
     def in_open(self):
         self.one_of((self.access, 7), (self.covered_write, 7), (self.plain_command, 10), (self.kill, 0.8),
-                    (self.failing_run, 2), (self.any_frame, 1.2), (lambda: self.send(*self.ack_bits()), 0.5),
-                    (lambda: self.send(build.nak()), 0.3), (self.small_call, 0.6))()
+                    (self.failing_run, 2), (self.long_reads, 2), (self.any_frame, 1.2),
+                    (lambda: self.send(*self.ack_bits()), 0.5), (lambda: self.send(build.nak()), 0.3),
+                    (self.small_call, 0.6))()
 
     def in_secured(self):
         self.one_of((self.plain_command, 16), (self.covered_write, 8), (self.access, 1.5), (self.kill, 0.9),
-                    (self.failing_run, 1.5), (self.any_frame, 1.2), (lambda: self.send(*self.ack_bits()), 0.5),
-                    (lambda: self.send(build.nak()), 0.4), (self.small_call, 0.6))()
+                    (self.failing_run, 1.5), (self.long_reads, 1.2), (self.any_frame, 1.2),
+                    (lambda: self.send(*self.ack_bits()), 0.5), (lambda: self.send(build.nak()), 0.4),
+                    (self.small_call, 0.6))()
 
     def in_killed(self):
         self.one_of((self.new_image, 3), (self.spi_run, 4), (self.any_frame, 3), (self.small_call, 2),

@@ -1054,6 +1054,139 @@ def reading(book):
         book.frame(read(bank, 0, 1, HANDLE), "answer 10 code 03")
 
 
+# The words of a reply as '#>' writes them.
+def shown(words):
+    return ",".join("%04x" % word for word in words)
+
+
+# Reads with WordCount 0: each a pointer and the words that it must show, None for 03h. The room is one byte too
+# small, then just enough.
+def read_on(book, bank, *reads):
+    for pointer, data in reads:
+        expected, room = "answer 10 code 03 reply 41", 6
+        if data is not None:
+            count = len(data.split(","))
+            expected, room = "answer 0 reply %d data %s" % (33 + 16 * count, data), 5 + 2 * count
+        book.frame(read(bank, pointer, 0, HANDLE), "answer 4 reply 0", room=room - 1)
+        book.frame(read(bank, pointer, 0, HANDLE), expected, room=room)
+
+
+# A code of two words in an EPC bank of eight: words 4 to 7 are left over from a longer one.
+STALE = [0x9297, 0x1000, 0x3034, 0x0257, 0xAAA4, 0xAAA5, 0xAAA6, 0xAAA7]
+
+
+def long_reading(book):
+    book.title("Read of EPC with WordCount 0: below L + 2 it ends after word L + 1, from there on with the bank")
+    for make in (guarded, small):
+        name = "Open" if make is guarded else "Secured"
+        book.note("in %s: L = 2, EPC of 4 words, none of them stale" % name)
+        book.begin(make())
+        read_on(book, BANK_EPC, (0, "9297,1000,3034,0257"), (1, "1000,3034,0257"), (2, "3034,0257"), (3, "0257"),
+                (4, None), (5, None))
+        stale_code(book, make)
+        empty_code(book, make)
+        longest_code(book, make)
+        code_moved(book, make)
+        code_moved_by_cut(book, make)
+        other_banks(book, make)
+
+
+# L = 2 in eight words.
+def stale_code(book, make):
+    book.note("L = 2, EPC of 8 words, 4 to 7 stale")
+    book.begin(make(epc=STALE))
+    read_on(book, BANK_EPC, (0, "9297,1000,3034,0257"), (1, "1000,3034,0257"), (2, "3034,0257"), (3, "0257"),
+            (4, "aaa4,aaa5,aaa6,aaa7"), (5, "aaa5,aaa6,aaa7"), (6, "aaa6,aaa7"), (7, "aaa7"), (8, None), (9, None),
+            (0x1FFFFF, None))
+    for e in (2, 3):
+        book.frame(read(BANK_EPC, 3, 0, HANDLE, e), "answer 0 reply 49 data 0257")
+        book.frame(read(BANK_EPC, 4, 0, HANDLE, e), "answer 0 reply 97 data aaa4,aaa5,aaa6,aaa7")
+    book.note("4 leaves the cover number, 0 uses it up; the room's other bytes stay")
+    book.cover()
+    book.frame(read(BANK_EPC, 1, 0, HANDLE), "answer 4 reply 0 cover 0f1e", room=10)
+    book.frame(read(BANK_EPC, 1, 0, HANDLE), "answer 0 reply 81 cover -", room=21)
+    book.note("a count shows stale words as before")
+    for pointer, count in ((0, 8), (0, 5), (3, 2), (3, 5), (0, 4), (1, 1), (4, 1), (7, 1)):
+        data = shown(STALE[pointer:pointer + count])
+        book.frame(read(BANK_EPC, pointer, count, HANDLE), "answer 4 reply 0", room=4 + 2 * count)
+        book.frame(read(BANK_EPC, pointer, count, HANDLE), "answer 0 data " + data, room=5 + 2 * count)
+    for pointer, count in ((0, 9), (3, 6), (4, 5), (8, 1)):
+        book.frame(read(BANK_EPC, pointer, count, HANDLE), "answer 10 code 03")
+
+
+# L = 0, whatever the PC's other bits are.
+def empty_code(book, make):
+    book.note("L = 0, EPC of 2 words: the CRC-16 and the PC")
+    book.begin(make(epc=[0, 0]))
+    read_on(book, BANK_EPC, (0, "e2f0,0000"), (1, "0000"), (2, None), (3, None))
+    book.note("L = 0, EPC of 5 words, 2 to 4 stale")
+    crc_now = crc(field_bits(0x07FF, 16))
+    book.begin(make(epc=[0, 0x07FF, 0xAAA2, 0xAAA3, 0xAAA4]))
+    read_on(book, BANK_EPC, (0, "%04x,07ff" % crc_now), (1, "07ff"), (2, "aaa2,aaa3,aaa4"), (3, "aaa3,aaa4"),
+            (4, "aaa4"), (5, None), (6, None))
+    book.frame(read(BANK_EPC, 1, 4, HANDLE), "answer 4 reply 0", room=12)
+    book.frame(read(BANK_EPC, 1, 4, HANDLE), "answer 0 data 07ff,aaa2,aaa3,aaa4", room=13)
+
+
+# The largest L, and one less, in the largest bank, which comes under the session.
+def longest_code(book, make):
+    book.begin(make())
+    code = [0xC0D0 + k for k in range(31)]
+    for length, pc in ((31, 0xF800), (30, 0xF000)):
+        words = [0x9297, pc] + code
+        book.note("L = %d, EPC of 33 words" % length)
+        book.image(make(epc=words))
+        read_on(book, BANK_EPC, (0, shown(words[:length + 2])), (1, shown(words[1:length + 2])),
+                (length + 1, shown(words[length + 1:length + 2])), (32, "c0ee"), (33, None))
+
+
+# L is that of the PC as it stands in the image.
+def code_moved(book, make):
+    book.note("the PC written: L = 4, the whole bank, 1, and one too long, which is not stored")
+    book.begin(make(epc=STALE))
+    read_on(book, BANK_EPC, (3, "0257"), (4, "aaa4,aaa5,aaa6,aaa7"))
+    book.write(BANK_EPC, 1, 0x2000, "answer 0 stores 5 reply 33")
+    read_on(book, BANK_EPC, (0, "9297,2000,3034,0257,aaa4,aaa5"), (3, "0257,aaa4,aaa5"), (4, "aaa4,aaa5"),
+            (5, "aaa5"), (6, "aaa6,aaa7"), (7, "aaa7"), (8, None))
+    book.write(BANK_EPC, 1, 0x3000, "answer 0 stores 5")
+    read_on(book, BANK_EPC, (0, "9297,3000,3034,0257,aaa4,aaa5,aaa6,aaa7"), (6, "aaa6,aaa7"), (8, None))
+    book.write(BANK_EPC, 1, 0x0800, "answer 0 stores 5")
+    read_on(book, BANK_EPC, (0, "9297,0800,3034"), (2, "3034"), (3, "0257,aaa4,aaa5,aaa6,aaa7"))
+    book.write(BANK_EPC, 1, 0x3800, "answer 10 code 03 stores 0")
+    read_on(book, BANK_EPC, (0, "9297,0800,3034"), (3, "0257,aaa4,aaa5,aaa6,aaa7"))
+    book.note("PC and code by BlockWrite, L = 3; the PC erased, L = 0")
+    book.frame(block_write(BANK_EPC, 1, [0x1800, 0x1111, 0x2222, 0x3333], HANDLE), "answer 0 stores 14")
+    read_on(book, BANK_EPC, (0, "9297,1800,1111,2222,3333"), (4, "3333"), (5, "aaa5,aaa6,aaa7"))
+    book.frame(block_erase(BANK_EPC, 1, 1, HANDLE), "answer 0 stores 5")
+    read_on(book, BANK_EPC, (0, "9297,0000"), (1, "0000"), (2, "1111,2222,3333,aaa5,aaa6,aaa7"))
+    book.note("another image under the session, L = 5")
+    book.image(make(epc=[0x9297, 0x2800] + STALE[2:]))
+    read_on(book, BANK_EPC, (0, "9297,2800,3034,0257,aaa4,aaa5,aaa6"), (6, "aaa6"), (7, "aaa7"))
+
+
+# A PC that is written, and the power lost: old or new, as power-up leaves it.
+def code_moved_by_cut(book, make):
+    book.note("a Write of the PC cut before the count, and after it: L = 2, L = 4")
+    crc_new = crc(field_bits(0x200030340257AAA4AAA5, 80))
+    for s, stores, data in ((2, 1, "9297,1000,3034,0257"), (3, 3, "%04x,2000,3034,0257,aaa4,aaa5" % crc_new)):
+        book.begin(make(epc=STALE))
+        book.write(BANK_EPC, 1, 0x2000, "answer 11 stores %d state off" % s, s=s)
+        book.line("power 9", "answer 0 stores %d state ready" % stores)
+        book.resume(make())
+        read_on(book, BANK_EPC, (0, data))
+
+
+# RESERVED, TID and USER, longer than L + 2 and shorter.
+def other_banks(book, make):
+    book.note("other banks go to their ends, whatever L is: 0, 2, then 6, beyond the ends of two")
+    for pc in (0x0000, 0x1000, 0x3000):
+        image = make(epc=[0, pc] + STALE[2:], tid=[0xE200, 0x6001, 2, 3, 4, 5])
+        image.reserved += [0x5555, 0x6666]
+        book.begin(image)
+        for bank, words in ((BANK_RESERVED, image.reserved), (BANK_TID, image.tid), (BANK_USER, image.user)):
+            read_on(book, bank, *((n, shown(words[n:])) for n in (0, 1, 4)), (len(words), None))
+
+
 def writing(book):
     book.title("Write: P7, P8, P9, 03h, 04h, limits")
     image = small()
@@ -1860,7 +1993,7 @@ def whole_list():
     for part in (before_any_image, bad_lines, image_check_header, image_check_content, power_up,
                  session_and_nak, malformed, out_of_place, inventory_refused, inventory_malformed,
                  querying, adjusting, repeating, acknowledging, selecting, inventory_between_halves,
-                 reading, writing, accessing, killing,
+                 reading, long_reading, writing, accessing, killing,
                  wrong_passwords, broken_halves, half_waits_on, lost_in_round,
                  locking, block_writing, block_erasing, block_permalocking, spi_port, killed_tag,
                  image_changed):

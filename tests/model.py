@@ -906,12 +906,23 @@ def plan_req_rn(call):
     return call.done(bits_of(call.fresh, 16), session=session)
 
 
-# Read: the words after the 0; WordCount 0 goes to the bank's end.
+# How many words a Read shows: its WordCount, or where that is 0 the words to the
+# bank's end; in EPC, with a pointer below L + 2, those to word L + 1.
+def words_read(call):
+    pointer, end = call.command.pointer, call.bank_count
+    if call.command.count != 0:
+        return call.command.count
+    if call.command.bank == "EPC":
+        code_end = pc_length(section_word(call.image, call.layout, "EPC", 1)) + 2
+        end = code_end if pointer < code_end else end
+    return end - pointer
+
+
+# Read: the words after the 0.
 def plan_read(call):
-    pointer, count = call.command.pointer, call.command.count
-    call.refuse_overrun(count)
-    if count == 0:
-        count = call.bank_count - pointer
+    pointer = call.command.pointer
+    call.refuse_overrun(call.command.count)
+    count = words_read(call)
     error_if(not all(call.may_read(n) for n in range(pointer, pointer + count)), 0x04)
     first = call.layout.offset[call.command.bank] + pointer
     words = "".join(bits_of(word(call.image, first + k), 16) for k in range(count))

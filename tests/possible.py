@@ -121,3 +121,49 @@ def answers_of(situation, kind):
 # Every possible (situation, kind, answer).
 POSSIBLE = [(situation, kind, answer) for situation in SITUATIONS for kind in KINDS
             for answer in sorted(answers_of(situation, kind))]
+
+
+# --------------------------------------------------------------------------
+# Reads of EPC
+# --------------------------------------------------------------------------
+
+# The Reads of EPC with WordCount 0 that end after word L + 1, by where the pointer lies; stale words are those behind.
+IN_CODE = ("below L + 2, no stale word", "below L + 1, stale words", "at L + 1, stale words")
+
+# These and the others with WordCount 0, and those with a count that begin below L + 2 and pass word L + 1; what each
+# can be answered once it is past 9, 12 and 14.
+EPC_READS = {**dict.fromkeys(IN_CODE, {0, 4}), "at L + 2": {0, 4}, "beyond L + 2": {0, 4},
+             "at the bank's end": {4, 10}, "beyond the bank's end": {4, 10}, "a count past word L + 1": {0, 4}}
+
+
+# Which of them a Read of EPC is, seeing L and the bank's count; None for any other.
+def epc_read_of(pointer, word_count, length, bank_count):
+    code_end = length + 2
+    if word_count:
+        return "a count past word L + 1" if pointer < code_end < pointer + word_count <= bank_count else None
+    if pointer >= bank_count:
+        return "at the bank's end" if pointer == bank_count else "beyond the bank's end"
+    if pointer >= code_end:
+        return "at L + 2" if pointer == code_end else "beyond L + 2"
+    if code_end == bank_count:
+        return "below L + 2, no stale word"
+    return "at L + 1, stale words" if pointer + 1 == code_end else "below L + 1, stale words"
+
+
+# What a line was as such a Read: (state before it, whether L is 0, which, answer), seeing the image; else None.
+def epc_read_case(state, image, line, answer):
+    if answer not in (0, 4, 10) or not line.startswith(b"frame "):
+        return None
+    count, data = line.split(b" ")[1:3]
+    command = model.read_frame(int(count), model.read_hex(data))
+    if command.code != model.READ or command.bank != "EPC":
+        return None
+    layout = model.read_layout(image)
+    length = model.pc_length(model.section_word(image, layout, "EPC", 1))
+    which = epc_read_of(command.pointer, command.count, length, layout.count["EPC"])
+    return which and (state, length == 0, which, answer)
+
+
+# Every possible one.
+EPC_READ_CASES = [(state, empty, which, answer) for state in LINKED for empty in (True, False)
+                  for which, answers in EPC_READS.items() for answer in sorted(answers)]

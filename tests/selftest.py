@@ -2,6 +2,7 @@
 """Holds the model to the worked cases of the rules and to what bench's list says of itself."""
 
 import random
+from typing import NamedTuple
 
 import build
 import makelist
@@ -189,6 +190,22 @@ def halfway_bench(first):
     return bench, bytes(bench.image)
 
 
+# Where a Read of EPC with WordCount 0 ends, for each L and each pointer of banks short and long.
+def long_read_cases():
+    for count in (2, 3, 4, 8, 32):
+        for length in range(count - 1):
+            bench = secured_bench(Image(epc=[0, length << 11 | 0x2A5] + [0xE000 + k for k in range(2, count)]))
+            words = [model.word(bench.image, 22 + k) for k in range(count)]
+            for pointer in range(count):
+                end = length + 2 if pointer < length + 2 else count
+                answer = send(bench, build.read(BANK_EPC, pointer, 0, HANDLE), room=5 + 2 * (end - pointer))
+                bits = "".join(build.field_bits(word, 16) for word in words[pointer:end])
+                assert answer.number == 0 and answer.reply[1:-32] == bits
+                assert send(bench, build.read(BANK_EPC, pointer, 0, HANDLE), room=4 + 2 * (end - pointer)).number == 4
+            for pointer in (count, count + 1):
+                assert code_of(send(bench, build.read(BANK_EPC, pointer, 0, HANDLE))) == 0x03
+
+
 # --------------------------------------------------------------------------
 # The lines' own limits
 # --------------------------------------------------------------------------
@@ -268,10 +285,11 @@ POSSIBLE_CODES = {
     (model.BLOCK_PERMALOCK, "04")}
 
 
-# Holds the model to what the list says of each line: how many lines, and the answers, error codes and cases seen.
+# Holds the model to what the list says of each line: how many lines, and the answers, error codes, cases and Reads
+# of EPC seen.
 def walk_list(content):
     bench, expected, held = model.Bench(), None, 0
-    answers, codes, seen = set(), set(), set()
+    answers, codes, seen, epc_reads = set(), set(), set(), set()
     for number, text in enumerate(model.lines_of(content), 1):
         situation = possible.situation_of(bench.session)
         written = bench.line(text)
@@ -288,14 +306,16 @@ def walk_list(content):
             codes.add((command_of(text), parts["code"]))
         if text.startswith(b"frame") and "answer" in parts:
             seen.add((situation, model.NAMES.get(command_of(text), "unknown code"), int(parts["answer"])))
-    return held, answers, codes, seen
+            epc_reads.add(possible.epc_read_case(possible.parts_of(situation)[0], bench.image, text,
+                                                 int(parts["answer"])))
+    return held, answers, codes, seen, epc_reads - {None}
 
 
 def list_cases():
     with open(makelist.LIST, "rb") as source:
         content = source.read()
     assert content == makelist.whole_list().encode("utf-8"), "crates/bench/stdin is not as makelist.py writes it"
-    held, answers, codes, seen = walk_list(content)
+    held, answers, codes, seen, epc_reads = walk_list(content)
     assert {str(n) for n in range(15)} <= answers
     assert codes == POSSIBLE_CODES, codes ^ POSSIBLE_CODES
     assert seen <= set(possible.POSSIBLE), seen - set(possible.POSSIBLE)
@@ -303,6 +323,7 @@ def list_cases():
     assert coarse(wanted) <= coarse(seen), coarse(wanted) - coarse(seen)
     failing = {case for case in possible.POSSIBLE if case[2] in (12, 14)}
     assert failing <= seen, failing - seen
+    assert epc_reads == set(possible.EPC_READ_CASES), epc_reads ^ set(possible.EPC_READ_CASES)
     return held
 
 
@@ -335,8 +356,8 @@ WRONG_RULES = {
         14 if session.half[1] == password[0] else right}
 
 
-# Whether the list notices a model with this rule.
-def noticed(rule, content):
+# The model's rule for a password that fails, made wrong.
+def wrong_password(rule):
     right_rule = model.password_failed
 
     def wrong_rule(image, layout, session, command):
@@ -346,27 +367,132 @@ def noticed(rule, content):
         password = model.access_password if session.half[0] == model.ACCESS else model.kill_password
         return rule(right, session, command, password(image, layout))
 
-    model.password_failed = wrong_rule
+    return wrong_rule
+
+
+class Reading(NamedTuple):
+    """A Read as a wrong rule sees it: how many words are right, where it begins, L + 2 and the bank's count."""
+
+    call: model.Call
+    right: int
+    pointer: int
+    code_end: int
+    bank_end: int
+
+    # Whether it is one of this bank with WordCount 0.
+    def goes_on(self, bank):
+        return self.call.command.bank == bank and self.call.command.count == 0
+
+    # How many words there are to the bank's end.
+    @property
+    def rest(self):
+        return self.bank_end - self.pointer
+
+    # How many words there are where the code ends elsewhere.
+    def ended(self, code_end):
+        return min(code_end, self.bank_end) - self.pointer if self.pointer < code_end else self.rest
+
+    # An EPC word of the image.
+    def epc_word(self, n):
+        return model.section_word(self.call.image, self.call.layout, "EPC", n)
+
+
+class FirstLength:
+    """L as a tag has it that keeps the one it found first in an image."""
+
+    def __init__(self):
+        self.image, self.code_end = None, 0
+
+    def __call__(self, read):
+        if self.image is not read.call.image:
+            self.image, self.code_end = read.call.image, read.code_end
+        return read.ended(self.code_end)
+
+
+# An error reply with code 03h.
+def past_end(read):
+    raise model.ErrorReply(0x03)
+
+
+# Wrong ends for a Read of EPC with WordCount 0: how many words it shows.
+WRONG_ENDS = {
+    "with the bank, always": lambda read: read.rest,
+    "after word L where the pointer is below L + 2": lambda read:
+        read.right - 1 if read.pointer < read.code_end else read.right,
+    "after word L where it is below L + 1": lambda read: read.ended(read.code_end - 1),
+    "after word L + 2 where it is below L + 3": lambda read: read.ended(read.code_end + 1),
+    "after word L + 2 where it is below L + 2": lambda read:
+        min(read.right + 1, read.rest) if read.pointer < read.code_end else read.right,
+    "after L + 2 words": lambda read: min(read.code_end, read.rest) if read.pointer < read.code_end else read.right,
+    "after L words": lambda read: min(read.code_end - 2, read.rest) if read.pointer < read.code_end else read.right,
+    "with the bank from L + 1 on": lambda read: read.rest if read.pointer == read.code_end - 1 else read.right,
+    "at once from L + 2": lambda read: 0 if read.pointer == read.code_end else read.right,
+    "after one word from L + 2": lambda read: 1 if read.pointer == read.code_end else read.right,
+    "at once from L + 2 on": lambda read: 0 if read.pointer >= read.code_end else read.right,
+    "at once beyond L + 2": lambda read: 0 if read.pointer > read.code_end else read.right,
+    "03h from L + 2": lambda read: past_end(read) if read.pointer == read.code_end else read.right,
+    "03h from L + 2 on": lambda read: past_end(read) if read.pointer >= read.code_end else read.right,
+    "03h beyond L + 2": lambda read: past_end(read) if read.pointer > read.code_end else read.right,
+    "with the code from word 0 alone": lambda read: read.right if read.pointer == 0 else read.rest,
+    "with the bank where L is 0": lambda read: read.rest if read.code_end == 2 else read.right,
+    "with the code in Open alone": lambda read: read.right if read.call.session.state == "open" else read.rest,
+    "with the code in Secured alone": lambda read: read.right if read.call.session.state == "secured" else read.rest,
+    "by L of word 0": lambda read: read.ended(model.pc_length(read.epc_word(0)) + 2),
+    "by L of four bits": lambda read: read.ended((read.epc_word(1) >> 11 & 0xF) + 2),
+    "by L of the top four bits": lambda read: read.ended((read.epc_word(1) >> 12) + 2),
+    "by L of the top six bits": lambda read: read.ended((read.epc_word(1) >> 10) + 2),
+    "by L as it stood first": FirstLength()}
+
+# Wrong ends for other Reads.
+WRONG_READS = {
+    "the code's end in RESERVED": lambda read: read.ended(read.code_end) if read.goes_on("RESERVED") else read.right,
+    "the code's end in TID": lambda read: read.ended(read.code_end) if read.goes_on("TID") else read.right,
+    "the code's end in USER": lambda read: read.ended(read.code_end) if read.goes_on("USER") else read.right,
+    "the code's end for a count too": lambda read:
+        min(read.right, read.ended(read.code_end)) if read.call.command.bank == "EPC" else read.right}
+
+
+# The model's rule for the words of a Read, made wrong where it is one of these.
+def wrong_end(rule, meant):
+    right_rule = model.words_read
+
+    def wrong_rule(call):
+        length = model.pc_length(model.section_word(call.image, call.layout, "EPC", 1))
+        read = Reading(call, right_rule(call), call.command.pointer, length + 2, call.bank_count)
+        return rule(read) if meant(read) else read.right
+
+    return wrong_rule
+
+
+# Whether the list notices a model with this function in place of its own.
+def noticed(name, wrong, content):
+    right = getattr(model, name)
+    setattr(model, name, wrong)
     try:
         walk_list(content)
     except AssertionError:
         return True
     finally:
-        model.password_failed = right_rule
+        setattr(model, name, right)
     return False
 
 
 def able_to_fail():
     content = makelist.whole_list().encode("utf-8")
     for name, rule in WRONG_RULES.items():
-        assert noticed(rule, content), name
+        assert noticed("password_failed", wrong_password(rule), content), name
+    for name, rule in WRONG_ENDS.items():
+        assert noticed("words_read", wrong_end(rule, lambda read: read.goes_on("EPC")), content), name
+    for name, rule in WRONG_READS.items():
+        assert noticed("words_read", wrong_end(rule, lambda read: True), content), name
 
 
 if __name__ == "__main__":
     for case in (crc_cases, crc5_cases, ebv_cases, small_image_cases, write_cases, lock_cases, spi_case,
-                 inventory_case, limit_cases, password_cases, line_cases):
+                 inventory_case, limit_cases, password_cases, long_read_cases, line_cases):
         case()
         print("good:", case.__name__)
     print("good: the list of bench, %d lines held to what they must bring" % list_cases())
     able_to_fail()
-    print("good: the list of bench notices each of %d wrong rules of 12 and 14" % len(WRONG_RULES))
+    print("good: the list of bench notices each of %d wrong rules of 12 and 14, and of %d wrong ends of a Read"
+          % (len(WRONG_RULES), len(WRONG_ENDS) + len(WRONG_READS)))
