@@ -36,7 +36,7 @@ past-beyond s b p n (inr l) = or-right (leb (s .words) p) (ltb (s .words) (p + n
 within-beyond : (s : Section) (b p n : ℕ) → Within (s .words) p n → beyond s (span b p n) ≡ false
 within-beyond s b p n w = ap₂ (λ (t u : Bool). t || u) (lt-leb (s .words) p (w .0)) (le-ltb (s .words) (p + n) (w .1))
 
--- the words that a Read shows
+-- the words that a Read shows; its end by the two tests of `readEnd`
 module _ (y : Layout) (m : List ℕ) (b p : ℕ) where
   abbrev by-end : Bool → Bool → ℕ
   by-end epc low = cond (epc && low) (lengthOf (pcWord y m) + 2) (bankOf y b .words)

@@ -81,9 +81,13 @@ callsWrongBroken = framing (λ i. renumbered 12 14 (firstOf (frameOf changeStore
 abbrev pub hearsWhileHeld : Program
 hearsWhileHeld = without 4
 
+-- the same call, but for a frame of these bits with their right CRC-16
+abbrev resent : List ℕ → Input → Input
+resent bits i = input (i .session) (i .image) (packed (sealed bits) (i .frame)) (i .bits) (i .fresh) (i .room) (i .power)
+
 -- the answer to the frame with the right CRC-16 in place of its own
 abbrev mended : Input → Input
-mended i = input (i .session) (i .image) (packed (sealed (bitsFrom (i .frame) 0 (i .bits - 16))) (i .frame)) (i .bits) (i .fresh) (i .room) (i .power)
+mended i = resent (bitsFrom (i .frame) 0 (i .bits - 16)) i
 
 abbrev pub ignoresChecksum : Program
 ignoresChecksum = framing (λ i. firstOf (frameOf changeStores (mended i)))
@@ -114,15 +118,15 @@ keepsCover =
     framing (λ i. let r = firstOf (frameOf changeStores i) in record { number = r .number; session = i .session; reply = r .reply; stores = r .stores; value = 0; image = r .image; room = r .room })
 
 -- takes a Read of the EPC with WordCount 0, its pointer of one byte, as one of all words to the bank's end
-abbrev toEnd : Input → List ℕ
+abbrev toEnd : Input → Input
 toEnd i =
     let f = i .frame in
     let n = layoutOf (i .image) .epc .words - fieldAt f 10 8 in
-    cond (eqb (i .bits) 58 && checksumRight f 58 && eqb (fieldAt f 0 10) 0x309 && eqb (fieldAt f 18 8) 0)
-    (packed (sealed (bitsFrom f 0 18 ++ bitsOf 8 n ++ bitsFrom f 26 16)) f) f
+    cond (eqb (i .bits) 58 && checksumRight f 58 && eqb (fieldAt f 0 8) 0xC2 && eqb (fieldAt f 8 2) 1 && eqb (fieldAt f 18 8) 0)
+    (resent (bitsFrom f 0 18 ++ bitsOf 8 n ++ bitsFrom f 26 16) i) i
 
 abbrev pub readsStale : Program
-readsStale = framing (λ i. firstOf (frameOf changeStores (input (i .session) (i .image) (toEnd i) (i .bits) (i .fresh) (i .room) (i .power))))
+readsStale = framing (λ i. firstOf (frameOf changeStores (toEnd i)))
 
 -- what a tag in Ready, which inverts no flag, comes to by a Query; but with the flags of the right answer
 abbrev early : Input → Result

@@ -100,7 +100,7 @@ pub cases : Hold table
 unfolding table frameOf layoutOf headerGood blocksIn contentGood rulesHold worked stale wordAt withWord wordsBits bitsOf crcOf fieldAt pointerAt heardOf checksumRight filled packed checked readCode
 cases = (refl, (refl, (refl, (refl, (refl, (refl, (refl, (refl, (refl, (refl, (refl, (refl, (refl, (refl, (refl, (refl, (refl, (refl, (refl, (refl, tt))))))))))))))))))))
 
--- from word 0 on, where stale words follow
+-- a Read of the EPC from word 0 on with WordCount 0, where stale words stand behind word L + 1
 abbrev pub longRead : Air
 longRead = reading 24 stale 1 0 0
 
@@ -108,6 +108,7 @@ longRead = reading 24 stale 1 0 0
 abbrev ends : End
 ends = record { state = state.Secured (plainLink round 0x1234); reply = reply.Words (bankOf (layoutOf stale) 1 .at + 0) 4 0x1234; words = [] }
 
+-- EPC is not RESERVED
 epc : _≢_ {A = ℕ} 1 0
 epc e = omega (arith, e)
 
