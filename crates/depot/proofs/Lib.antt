@@ -1,0 +1,11 @@
+pub mod Bounds
+pub mod Shapes
+pub mod Answers
+pub mod Standing
+pub mod Pointers
+pub mod Hearing
+pub mod Heard
+pub mod Past
+pub mod Told
+pub mod Only
+pub mod Readings

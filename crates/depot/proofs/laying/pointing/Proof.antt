@@ -1,0 +1,11 @@
+-- `depot::laying::pointing` meets its contract. Assumes nothing.
+use borrow.Author.Needs.{needs}
+use Rattle.depot.proofs.laying.pointing.Statement.{statement}
+use Rattle.depot.proofs.laying.pointing.Tie as tie
+
+returns : tie.Need-returns
+returns c = rw (c .ebv .ensures)
+
+pub pointing-spec : {M : Type 1} → statement M
+pointing-spec = tie.close
+    (tie.spec (search needs) (search needs) (search needs) (search needs) returns)

@@ -1,0 +1,9 @@
+pub mod Limits
+pub mod Making
+pub mod Reading
+pub mod Heard
+pub mod Steps
+pub mod Meant
+pub mod One
+pub mod Cases
+pub mod Wrong
