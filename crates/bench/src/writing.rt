@@ -1,6 +1,9 @@
-// What is written, by way of a buffer: each function takes the place in it and gives the next.
-ghost use Prim.Native.Nat.{_<_};
-use libc::STDOUT_FILENO;
+// How a call's outcome and the session are written.
+use lines::output::byte;
+use lines::output::hex;
+use lines::output::labelled;
+use lines::output::text;
+use lines::output::word;
 use tag::Cover;
 use tag::Flags;
 use tag::Half;
@@ -13,80 +16,10 @@ use tag::Round;
 use tag::Session;
 use tag::State;
 
-// One byte; a full buffer is written out first.
-fn byte(out: &mut [u8; 65536], at: usize, c: u8) -> usize {
-    if at < 65536 {
-        out[at] = c;
-        return at + 1;
-    }
-    io::write_all(STDOUT_FILENO, out);
-    out[0] = c;
-    1
-}
-
-// Writes out what the buffer holds.
-pub fn flush(out: &[u8], at: usize) {
-    if at <= out.len() {
-        io::write_all(STDOUT_FILENO, &out[0..at]);
-    }
-}
-
-pub fn text(out: &mut [u8; 65536], at: usize, words: &[u8]) -> usize {
-    let mut q = at;
-    let mut i = 0;
-    while i < words.len() {
-        q = byte(out, q, words[i]);
-        i += 1;
-    }
-    q
-}
-
-fn decimal(out: &mut [u8; 65536], at: usize, n: u64) -> usize {
-    let mut digits = [0u8; 20];
-    let k = io::decimal(n, &mut digits);
-    text(out, at, &digits[..k])
-}
-
-// A label and a number.
-pub fn labelled(out: &mut [u8; 65536], at: usize, label: &[u8], n: u64) -> usize {
-    let q = text(out, at, label);
-    decimal(out, q, n)
-}
-
-fn digit(d: u8) -> u8
-    requires { ⌜ d < 16 ⌝ }
-{
-    if d < 10 { 48 + d } else { 87 + d }
-}
-
-fn two_digits(out: &mut [u8; 65536], at: usize, c: u8) -> usize {
-    let q = byte(out, at, digit(c / 16));
-    byte(out, q, digit(c % 16))
-}
-
-// Bytes as hex, or - for none.
-pub fn hex(out: &mut [u8; 65536], at: usize, bytes: &[u8]) -> usize {
-    if bytes.len() == 0 {
-        return text(out, at, b"-");
-    }
-    let mut q = at;
-    let mut i = 0;
-    while i < bytes.len() {
-        q = two_digits(out, q, bytes[i]);
-        i += 1;
-    }
-    q
-}
-
-fn put_word(out: &mut [u8; 65536], at: usize, w: u16) -> usize {
-    let q = two_digits(out, at, (w / 256) as u8);
-    two_digits(out, q, (w % 256) as u8)
-}
-
 fn put_cover(out: &mut [u8; 65536], at: usize, c: Cover) -> usize {
     match c {
         Cover::Nothing => text(out, at, b"-"),
-        Cover::Number(w) => put_word(out, at, w),
+        Cover::Number(w) => word(out, at, w),
     }
 }
 
@@ -95,11 +28,11 @@ fn put_half(out: &mut [u8; 65536], at: usize, h: Half) -> usize {
         Half::Nothing => text(out, at, b"-"),
         Half::Access(w) => {
             let q = text(out, at, b"access:");
-            put_word(out, q, w)
+            word(out, q, w)
         }
         Half::Kill(w) => {
             let q = text(out, at, b"kill:");
-            put_word(out, q, w)
+            word(out, q, w)
         }
     }
 }
@@ -108,7 +41,7 @@ fn put_half(out: &mut [u8; 65536], at: usize, h: Half) -> usize {
 fn put_link(out: &mut [u8; 65536], at: usize, k: Link) -> usize {
     let c = k.cover;
     let h = k.half;
-    let q = put_word(out, at, k.handle);
+    let q = word(out, at, k.handle);
     let q2 = byte(out, q, b' ');
     let q3 = put_cover(out, q2, c);
     let q4 = byte(out, q3, b' ');
@@ -118,7 +51,7 @@ fn put_link(out: &mut [u8; 65536], at: usize, k: Link) -> usize {
 // A state's name, and the number that it replied.
 fn put_replied(out: &mut [u8; 65536], at: usize, name: &[u8], w: u16) -> usize {
     let q = text(out, at, name);
-    let q2 = put_word(out, q, w);
+    let q2 = word(out, q, w);
     text(out, q2, b" - -")
 }
 
@@ -256,7 +189,7 @@ pub fn put_outcome(out: &mut [u8; 65536], at: usize, o: Outcome, room: &[u8]) ->
 }
 
 // The line of the register's reading: its value stands there where the answer is 0.
-pub fn reading(out: &mut [u8; 65536], at: usize, o: Outcome) -> usize {
+pub fn put_reading(out: &mut [u8; 65536], at: usize, o: Outcome) -> usize {
     let a = o.answer;
     let q = call(out, at, o, b"");
     if tag::number(a) == 0 {
