@@ -241,6 +241,199 @@ static void calls(void) {
     is("image of a byte less", tag_read(held, image, sizeof image - 1, 45, 3, room, 6).answer, 2);
 }
 
+/* a depot's command in which every field is too large for any kind, and different from the others: what a kind does not use means nothing */
+static struct depot_command stuffed(unsigned kind) {
+    return (struct depot_command){.kind = kind, .bank = 0xF0000001, .pointer = 0xF0000002, .count = 0xF0000003, .word = 0xF0000004,
+                                  .mask = 0xF0000005, .action = 0xF0000006, .target = 0xF0000007, .session = 0xF0000008,
+                                  .up_down = 0xF0000009, .dr = 0xF000000A, .m = 0xF000000B, .trext = 0xF000000C, .sel = 0xF000000D,
+                                  .q = 0xF000000E};
+}
+
+static struct depot_command placed(unsigned kind, unsigned bank, unsigned pointer) {
+    struct depot_command c = stuffed(kind);
+    c.bank = bank;
+    c.pointer = pointer;
+    return c;
+}
+
+static struct depot_command worded(unsigned kind, unsigned word) {
+    struct depot_command c = stuffed(kind);
+    c.word = word;
+    return c;
+}
+
+static struct depot_command counted(unsigned kind, unsigned bank, unsigned pointer, unsigned count) {
+    struct depot_command c = placed(kind, bank, pointer);
+    c.count = count;
+    return c;
+}
+
+static struct depot_command locking(unsigned mask, unsigned action) {
+    struct depot_command c = stuffed(DEPOT_LOCK);
+    c.mask = mask;
+    c.action = action;
+    return c;
+}
+
+static struct depot_command selecting(unsigned target, unsigned action, unsigned bank, unsigned pointer, unsigned count) {
+    struct depot_command c = counted(DEPOT_SELECT, bank, pointer, count);
+    c.target = target;
+    c.action = action;
+    return c;
+}
+
+static struct depot_command querying(unsigned dr, unsigned m, unsigned trext, unsigned sel, unsigned session, unsigned target, unsigned q) {
+    struct depot_command c = stuffed(DEPOT_QUERY);
+    c.dr = dr;
+    c.m = m;
+    c.trext = trext;
+    c.sel = sel;
+    c.session = session;
+    c.target = target;
+    c.q = q;
+    return c;
+}
+
+static struct depot_command turning(unsigned kind, unsigned session, unsigned up_down) {
+    struct depot_command c = stuffed(kind);
+    c.session = session;
+    c.up_down = up_down;
+    return c;
+}
+
+/* a room that nothing was stored in */
+static void untouched(const char *what, const uint8_t *room, size_t bytes) {
+    size_t moved = 0;
+    for (size_t i = 0; i < bytes; i++) moved += room[i] != 0xEE;
+    is(what, moved, 0);
+}
+
+/* the frame, in a room of just its bytes, with a byte behind it that stays; then without room, where every byte stays */
+static void sends(const char *what, struct depot_command c, const char *payload, size_t payload_bytes, uint16_t number, uint16_t cover,
+                  const char *wanted, size_t bits) {
+    uint8_t room[16];
+    size_t bytes = (bits + 7) / 8;
+    memset(room, 0xEE, sizeof room);
+    struct depot_frame f = depot_make(c, (const uint8_t *)payload, payload_bytes, number, cover, room, bytes - 1);
+    is(what, f.answer, 4);
+    is(what, f.bits, 0);
+    untouched(what, room, sizeof room);
+    f = depot_make(c, (const uint8_t *)payload, payload_bytes, number, cover, room, bytes);
+    is(what, f.answer, 0);
+    is(what, f.bits, bits);
+    for (size_t i = 0; i < bytes; i++) is(what, room[i], (uint8_t)wanted[i]);
+    untouched(what, room + bytes, sizeof room - bytes);
+}
+
+/* beyond the limits, for both */
+static void beyond(const char *what, struct depot_command c, size_t payload_bytes) {
+    static const uint8_t payload[514];
+    uint8_t room[521];
+    memset(room, 0xEE, sizeof room);
+    struct depot_frame f = depot_make(c, payload, payload_bytes, 0xABCD, 0x1234, room, sizeof room);
+    is(what, f.answer, 9);
+    is(what, f.bits, 0);
+    untouched(what, room, sizeof room);
+    struct depot_reply r = depot_read(c, payload, payload_bytes, 0xABCD, 0, room, 0);
+    is(what, r.answer, 9);
+    is(what, r.kind + r.value + r.at, 0);
+}
+
+static void means(const char *what, struct depot_command c, const char *payload, size_t payload_bytes, uint16_t number, size_t bits,
+                  const char *reply, size_t reply_bytes, size_t answer, size_t kind, size_t value, size_t at) {
+    struct depot_reply r =
+        depot_read(c, (const uint8_t *)payload, payload_bytes, number, bits, (const uint8_t *)reply, reply_bytes);
+    is(what, r.answer, answer);
+    is(what, r.kind, kind);
+    is(what, r.value, value);
+    is(what, r.at, at);
+}
+
+/* every kind and every field, as the standard lays them out. Each field stands in a frame with a value that no other field of it has, or is
+   the only one that is 1 */
+static void frames(void) {
+    struct depot_command read = counted(DEPOT_READ, 3, 234, 5);
+    sends("QueryRep", turning(DEPOT_QUERY_REP, 2, 9), "", 0, 0xABCD, 0x1234, "\x20", 4);
+    sends("ACK", stuffed(DEPOT_ACK), "", 0, 0x6BCD, 0x1234, "\x5A\xF3\x40", 18);
+    sends("Query, DR", querying(1, 2, 0, 3, 1, 0, 11), "", 0, 0xABCD, 0x1234, "\x8C\xD5\xF4", 22);
+    sends("Query, TRext", querying(0, 1, 1, 2, 3, 0, 13), "", 0, 0xABCD, 0x1234, "\x83\xB6\x88", 22);
+    sends("Query, target", querying(0, 3, 0, 1, 2, 1, 6), "", 0, 0xABCD, 0x1234, "\x86\x6B\x24", 22);
+    sends("QueryAdjust", turning(DEPOT_QUERY_ADJUST, 1, 6), "", 0, 0xABCD, 0x1234, "\x97\x00", 9);
+    sends("Select", selecting(4, 3, 2, 0x12345, 13), "\xB5\xD7", 2, 0xABCD, 0x1234, "\xA8\xE8\x4C\x64\x50\xDB\x5D\x0B\xC2\xC0", 74);
+    sends("NAK", stuffed(DEPOT_NAK), "", 0, 0xABCD, 0x1234, "\xC0", 8);
+    sends("Req_RN", stuffed(DEPOT_REQ_RN), "", 0, 0x6BCD, 0x1234, "\xC1\x6B\xCD\xFD\x95", 40);
+    sends("Read", read, "", 0, 0xABCD, 0x1234, "\xC2\xE0\x5A\x81\x6A\xF3\x51\xFC\x80", 66);
+    struct depot_command write = placed(DEPOT_WRITE, 1, 2);
+    write.word = 0xEDCB;
+    sends("Write", write, "", 0, 0xABCD, 0xFFFF, "\xC3\x40\x84\x8D\x2A\xF3\x4C\xCC\x80", 66);
+    sends("Kill", worded(DEPOT_KILL, 0x4B49), "", 0, 0x1234, 0x5A5A, "\xC4\x11\x13\x02\x46\x8D\x0D\xE0", 59);
+    sends("Lock", locking(0x2A5, 0x13C), "", 0, 0xABCD, 0x1234, "\xC5\xA9\x53\xCA\xBC\xDA\x41\xA0", 60);
+    sends("Access", worded(DEPOT_ACCESS, 0xACCE), "", 0, 0xA5C3, 0x0F1E, "\xC6\xA3\xD0\xA5\xC3\x0F\x54", 56);
+    sends("BlockWrite", placed(DEPOT_BLOCK_WRITE, 3, 0), "\0\2\0\3", 4, 0xA5C3, 0x1234,
+          "\xC7\xC0\x00\x80\x00\x80\x00\xE9\x70\xE4\xB1\x80", 90);
+    sends("BlockErase", counted(DEPOT_BLOCK_ERASE, 1, 127, 6), "", 0, 0xABCD, 0x1234, "\xC8\x5F\xC1\xAA\xF3\x4E\xA5\x00", 58);
+    sends("BlockPermalock, reading", counted(DEPOT_READ_PERMALOCK, 3, 1, 9), "", 0, 0xABCD, 0x1234,
+          "\xC9\x00\x60\x21\x35\x79\xB0\xD3\x40", 67);
+    sends("BlockPermalock, locking", placed(DEPOT_PERMALOCK, 3, 4), "\xF0\x0F", 2, 0xABCD, 0x1234,
+          "\xC9\x00\xE0\x80\x3E\x01\xF5\x79\xA3\x60\x20", 83);
+}
+
+static void limits(void) {
+    static const uint8_t masks[510];
+    uint8_t room[521];
+    struct depot_command write = placed(DEPOT_WRITE, 1, 2), longest = placed(DEPOT_PERMALOCK, 3, 0x1FFFFF);
+    is("longest frame, a byte less", depot_make(longest, masks, 510, 0xABCD, 0x1234, room, 520).answer, 4);
+    is("longest frame", depot_make(longest, masks, 510, 0xABCD, 0x1234, room, 521).bits, 8 + 8 + 1 + 2 + 24 + 8 + 255 * 16 + 16 + 16);
+    beyond("unknown kind", stuffed(16), 0);
+    beyond("kind of all bits", stuffed(0xFFFFFFFF), 0);
+    beyond("kind of 2^16 and ACK's", stuffed(0x10000 + DEPOT_ACK), 0);
+    write.word = 0x10000;
+    beyond("Write of 17 bits", write, 0);
+    beyond("half of a Kill of 17 bits", worded(DEPOT_KILL, 0x10000), 0);
+    beyond("half of an Access of 17 bits", worded(DEPOT_ACCESS, 0x10000), 0);
+    beyond("Lock, mask of 17 bits", locking(0x10001, 1), 0);
+    beyond("Lock, action of 17 bits", locking(1, 0x10001), 0);
+    beyond("Lock, mask of 11 bits", locking(0x400, 1), 0);
+    beyond("Select, action of 17 bits", selecting(4, 0x10003, 2, 7, 13), 2);
+    beyond("Select, a byte more", selecting(4, 3, 2, 7, 13), 3);
+    beyond("QueryRep, session 4", turning(DEPOT_QUERY_REP, 4, 0), 0);
+    beyond("QueryAdjust, UpDn 1", turning(DEPOT_QUERY_ADJUST, 1, 1), 0);
+    beyond("Query, Q of 16", querying(0, 0, 0, 0, 0, 0, 16), 0);
+    beyond("Read of 256 words", counted(DEPOT_READ, 3, 234, 256), 0);
+    beyond("Read from 2^21 on", counted(DEPOT_READ, 3, 0x200000, 5), 0);
+    beyond("Read of bank 4", counted(DEPOT_READ, 4, 234, 5), 0);
+    beyond("BlockWrite of no words", placed(DEPOT_BLOCK_WRITE, 3, 0), 0);
+    beyond("BlockWrite of half a word", placed(DEPOT_BLOCK_WRITE, 3, 0), 3);
+    beyond("BlockWrite of 256 words", placed(DEPOT_BLOCK_WRITE, 3, 0), 512);
+}
+
+/* every kind of reply, and every refusal of one; bits and bytes behind a reply mean nothing */
+static void replies(void) {
+    static const char error[] = "\x85\xD5\xE6\x9C\xE3\x7F\xEE", success[] = "\x55\xE6\x86\x42\x7F\xEE"; /* code 0B, handle ABCDh */
+    static const char words[] = "\x08\x91\x19\xA2\x2A\xB3\x55\xE6\xDC\x91\xFF";                       /* 1122 3344 5566, ABCDh */
+    struct depot_command read = counted(DEPOT_READ, 3, 234, 3), block = placed(DEPOT_BLOCK_WRITE, 3, 0);
+    means("number", turning(DEPOT_QUERY_REP, 2, 9), "", 0, 0xABCD, 16, "\x61\x3A", 2, 0, DEPOT_NUMBER, 0x613A, 0);
+    means("PC and EPC", stuffed(DEPOT_ACK), "", 0, 0x613A, 64, "\x10\x00\x30\x34\x02\x57\x92\x97", 8, 0, DEPOT_WORDS, 3, 0);
+    means("handle", stuffed(DEPOT_REQ_RN), "", 0, 0x613A, 32, "\x43\x21\x8E\x2C", 4, 0, DEPOT_NUMBER, 0x4321, 0);
+    means("Access, half", worded(DEPOT_ACCESS, 0xACCE), "", 0, 0xA5C3, 32, "\xA5\xC3\xE9\x54", 4, 0, DEPOT_NUMBER, 0xA5C3, 0);
+    means("error", read, "", 0, 0xABCD, 41, error, 6, 0, DEPOT_ERROR, 0x0B, 0);
+    means("error 04", counted(DEPOT_READ, 3, 0, 0), "", 0, 0xBEEF, 41, "\x82\x5F\x77\xF6\xA8\x80", 6, 0, DEPOT_ERROR, 4, 0);
+    means("error to a BlockWrite", block, "\0\2", 2, 0xABCD, 41, error, 7, 0, DEPOT_ERROR, 0x0B, 0);
+    means("words", read, "", 0, 0xABCD, 81, words, 11, 0, DEPOT_WORDS, 3, 1);
+    means("done", block, "\0\2", 2, 0xABCD, 33, success, 6, 0, DEPOT_DONE, 0, 0);
+    means("under 16 bits", read, "", 0, 0xABCD, 15, words, 11, 8, DEPOT_NOTHING, 0, 0);
+    means("past the bytes", read, "", 0, 0xABCD, 81, words, 10, 8, DEPOT_NOTHING, 0, 0);
+    means("a bit less", read, "", 0, 0xABCD, 80, words, 11, 8, DEPOT_NOTHING, 0, 0);
+    means("another handle", read, "", 0, 0xABCC, 81, words, 11, 15, DEPOT_NOTHING, 0, 0);
+    means("another tag's error", read, "", 0, 0xABCC, 41, error, 6, 15, DEPOT_NOTHING, 0, 0);
+    means("a success for words", read, "", 0, 0xABCD, 33, success, 5, 15, DEPOT_NOTHING, 0, 0);
+    means("fewer words", counted(DEPOT_READ, 3, 234, 4), "", 0, 0xABCD, 81, words, 11, 15, DEPOT_NOTHING, 0, 0);
+    means("all words", counted(DEPOT_READ, 3, 234, 0), "", 0, 0xABCD, 81, words, 11, 0, DEPOT_WORDS, 3, 1);
+    means("blocks", counted(DEPOT_READ_PERMALOCK, 3, 0, 3), "", 0, 0xABCD, 81, words, 11, 0, DEPOT_WORDS, 3, 1);
+    means("NAK has no reply", stuffed(DEPOT_NAK), "", 0, 0xABCD, 33, success, 5, 15, DEPOT_NOTHING, 0, 0);
+    means("no words brought", block, "", 0, 0xABCD, 33, success, 5, 9, DEPOT_NOTHING, 0, 0);
+}
+
 int main(void) {
     fill();
     sheet();
@@ -248,6 +441,9 @@ int main(void) {
     strays();
     inventory();
     calls();
+    frames();
+    limits();
+    replies();
     printf("fields: %d seen, %d bad\n", seen, bad);
     return bad != 0;
 }

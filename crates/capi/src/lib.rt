@@ -8,12 +8,15 @@ ghost use Rattle.tag.specs.Port.{askOf, releaseOf, registerOf, readOf, writeOf}
 ghost use Rattle.states.specs.Numbers.{numbersIn};
 ghost use Rattle.tag.specs.Records.{sessionOf, inNumbers};
 ghost use Rattle.capi.specs.Told.{told, sheetOf};
+ghost use Rattle.capi.specs.Depot.{commandOf, makeFor, readFor, framed, replyOf};
 ghost use Rattle.tag.specs.Result.{firstOf};
 ghost use Rattle.stores.specs.Stores.{changeStores};
 
+mod commands;
 mod records;
 mod sheets;
 
+use commands::Asked;
 pub use states::Record;
 
 // An outcome: the answer's number, the new session, the reply's length in bits, the stores made, and the register where it was read.
@@ -45,6 +48,42 @@ pub struct Sheet {
     pub user: Place,
     pub perma: Place,
     pub work: Place,
+}
+
+// A command that a depot makes or reads a reply to: its kind, and what it has of the fields (RULES 12.9).
+#[repr(C)]
+pub struct Request {
+    pub kind: u32,
+    pub bank: u32,
+    pub pointer: u32,
+    pub count: u32,
+    pub word: u32,
+    pub mask: u32,
+    pub action: u32,
+    pub target: u32,
+    pub session: u32,
+    pub up_down: u32,
+    pub dr: u32,
+    pub m: u32,
+    pub trext: u32,
+    pub sel: u32,
+    pub q: u32,
+}
+
+// What making answers: a number, and where it is 0 the bits of the frame.
+#[repr(C)]
+pub struct Frame {
+    pub answer: usize,
+    pub bits: usize,
+}
+
+// What reading answers: a number, and where it is 0 the kind of the reply and its values.
+#[repr(C)]
+pub struct Reply {
+    pub answer: usize,
+    pub kind: usize,
+    pub value: usize,
+    pub at: usize,
 }
 
 // The image check.
@@ -138,4 +177,38 @@ pub extern "C" fn tag_write(
     ensures { λ r. ⌜ told r (now (image .exit)) [] ≡ inNumbers (firstOf (writeOf changeStores (sessionOf (numbersIn session)) (now (image .entry)) at (now (words .entry)) s)) ⌝ }
 {
     records::outcome(tag::session_of(session).write(image, at, words, s))
+}
+
+// Makes the frame of a command, with the number that it carries and a cover number, into the room.
+#[no_mangle]
+pub extern "C" fn depot_make(
+    command: Request,
+    payload: &[u8],
+    number: u16,
+    cover: u16,
+    room: &mut [u8],
+) -> Frame
+    ensures { λ r. ⌜ framed r (now (room .exit)) ≡ makeFor (commandOf command) (now (payload .entry)) number cover (now (room .entry)) ⌝ }
+{
+    match commands::command_of(command) {
+        Asked::Nothing => commands::frame_of(depot::Made::Beyond),
+        Asked::For(o) => commands::frame_of(depot::make(o, payload, number, cover, room)),
+    }
+}
+
+// Reads n bits as a reply to a command, with the number that it carried.
+#[no_mangle]
+pub extern "C" fn depot_read(
+    command: Request,
+    payload: &[u8],
+    number: u16,
+    n: usize,
+    reply: &[u8],
+) -> Reply
+    ensures { λ r. ⌜ r ≡ replyOf (readFor (commandOf command) (now (payload .entry)) number n (now (reply .entry))) ⌝ }
+{
+    match commands::command_of(command) {
+        Asked::Nothing => commands::reply_of(depot::Reading::Beyond),
+        Asked::For(o) => commands::reply_of(depot::read(o, payload, number, n, reply)),
+    }
 }
