@@ -1,6 +1,6 @@
 #!/usr/bin/env python3
 """Counts what a reader must believe of the core: the lines of the definitions in specs/ that the promises of `image`, of `tag::power_up` and of
-the methods of `tag::Session` reach, without comments, imports and empty lines; then what those of `capi` reach besides, the record of C.
+the methods of `tag::Session` reach, without comments, imports and empty lines; then what those of the depot reach besides, and those of `capi`, C's records.
 Writes a line for each file, then the sum of each part; names what a file has that no promise reaches."""
 import os
 import re
@@ -18,8 +18,15 @@ PROMISED = {
     "tag/Port": "askOf releaseOf registerOf readOf writeOf",
     "tag/Power": "powerUpOf",
 }
-C_FILES = "states/Numbers tag/Records capi/Told".split()
-C_PROMISED = {"states/Numbers": "numbersIn", "tag/Records": "sessionOf inNumbers", "capi/Told": "told sheetOf"}
+DEPOT_FILES = "readings/Reading depot/Limits depot/Making depot/Reading".split()
+DEPOT_PROMISED = {"readings/Reading": "meaning", "depot/Making": "sent makeOf", "depot/Reading": "readOf"}
+C_FILES = "states/Numbers tag/Records capi/Told capi/Depot".split()
+C_PROMISED = {
+    "states/Numbers": "numbersIn",
+    "tag/Records": "sessionOf inNumbers",
+    "capi/Told": "told sheetOf",
+    "capi/Depot": "commandOf makeFor readFor framed replyOf",
+}
 BEGINS = re.compile(r"(?:abbrev |unfoldable )?pub (?:record |data )?([A-Za-z][\w′-]*)(?: \(.*\))? : ")
 CASE = re.compile(r"\s+([A-Za-z]\w*) :")
 NAME = re.compile(r"(?:\b(\w+)\.)?([A-Za-z][\w′-]*)")
@@ -98,4 +105,5 @@ def count(files, promised, what):
 
 
 count(FILES, PROMISED, "of the core")
-count(C_FILES, C_PROMISED, "of C's record besides")
+count(DEPOT_FILES, DEPOT_PROMISED, "of the depot besides")
+count(C_FILES, C_PROMISED, "of C's records besides")

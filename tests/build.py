@@ -1,6 +1,6 @@
-"""Images, frames and list lines, made for trying a tag: the sender's side.
+"""Images, frames, replies and list lines, made for trying a tag or a depot: the other side's.
 
-Nothing here asks the model; CRC-16 and CRC-5 are a second, plain writing of them.
+Nothing here asks the models; CRC-16 and CRC-5 are a second, plain writing of them.
 """
 
 from dataclasses import dataclass, field
@@ -194,6 +194,29 @@ def block_permalock(bank, pointer, handle, masks=None, count=None, rfu=0, e=1):
 
 
 # --------------------------------------------------------------------------
+# Replies, as a tag sends them
+# --------------------------------------------------------------------------
+
+# To Req_RN, the new number; to Access and the first Kill, the handle.
+def number_reply(number):
+    return sealed(field_bits(number, 16))
+
+
+# To ACK: the PC and words after it.
+def pc_reply(words):
+    return sealed("".join(field_bits(w, 16) for w in words))
+
+
+# The success of a Read or a reading BlockPermalock; without words, that of a command that stores.
+def success_reply(handle, words=()):
+    return sealed("0" + "".join(field_bits(w, 16) for w in words) + field_bits(handle, 16))
+
+
+def error_reply(code, handle):
+    return sealed("1" + field_bits(code, 8) + field_bits(handle, 16))
+
+
+# --------------------------------------------------------------------------
 # List lines
 # --------------------------------------------------------------------------
 
@@ -220,3 +243,9 @@ def frame_line(bits, fresh=0, room=64, s=ENOUGH, count=None, data=None):
     return "frame %d %s %04x %d %d" % (
         len(bits) if count is None else count,
         show(pack(bits) if data is None else data), fresh, room, s)
+
+
+# A reply line of gate for these bits and this command; bytes and bit count may be given apart.
+def reply_line(bits, command, count=None, data=None):
+    return "reply %d %s %s" % (len(bits) if count is None else count,
+                               show(pack(bits) if data is None else data), command)

@@ -1193,25 +1193,29 @@ class Maker:
                         (lambda: self.put("dump"), 1))()
         self.new_image()
         while len(self.lines) < self.length:
-            if self.now_and_then(3):
-                self.odd_line()
-            elif self.now_and_then(3):
-                self.put("dump")
-            elif self.now_and_then(2.5):
-                self.new_image()
-            elif self.now_and_then(1.5):
-                self.meet_damage()
-            elif self.now_and_then(1.5):
-                self.change_image()
-            elif self.cases and self.now_and_then(12):
-                self.bring_about(*self.cases.pop())
-            elif not self.image_ready() and self.now_and_then(60):
-                self.one_of((self.new_image, 1), (self.power, 2))()
-            elif self.session.held:
-                self.in_held()
-            else:
-                getattr(self, "in_" + self.state)()
+            self.step()
         while self.cases:
             self.bring_about(*self.cases.pop())
         self.put("dump")
         return self.lines
+
+    # The next few lines.
+    def step(self):
+        if self.now_and_then(3):
+            self.odd_line()
+        elif self.now_and_then(3):
+            self.put("dump")
+        elif self.now_and_then(2.5):
+            self.new_image()
+        elif self.now_and_then(1.5):
+            self.meet_damage()
+        elif self.now_and_then(1.5):
+            self.change_image()
+        elif self.cases and self.now_and_then(12):
+            self.bring_about(*self.cases.pop())
+        elif not self.image_ready() and self.now_and_then(60):
+            self.one_of((self.new_image, 1), (self.power, 2))()
+        elif self.session.held:
+            self.in_held()
+        else:
+            getattr(self, "in_" + self.state)()

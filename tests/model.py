@@ -1154,13 +1154,15 @@ ROOM_FILL = 0xAA
 
 
 class BadLine(Exception):
-    """A line that the command list does not know."""
+    """A line that the command list does not know, and why."""
 
 
 # A decimal number without leading zeros, at most its limit.
 def read_number(part, limit=NUMBER_LIMIT):
-    if not re.fullmatch(rb"0|[1-9][0-9]{0,6}", part) or int(part) > limit:
-        raise BadLine
+    if not re.fullmatch(rb"0|[1-9][0-9]*", part):
+        raise BadLine("no number")
+    if len(part) > len(str(limit)) or int(part) > limit:
+        raise BadLine("above its limit")
     return int(part)
 
 
@@ -1174,7 +1176,7 @@ def read_hex(part):
     if part == b"-":
         return b""
     if len(part) % 2 == 1 or not re.fullmatch(rb"[0-9a-f]+", part):
-        raise BadLine
+        raise BadLine("no hex")
     return bytes.fromhex(part.decode("ascii"))
 
 
@@ -1182,14 +1184,14 @@ def read_hex(part):
 def read_image(part):
     data = read_hex(part)
     if len(data) > IMAGE_LIMIT:
-        raise BadLine
+        raise BadLine("above its limit")
     return data
 
 
 # A word as four lowercase hex digits.
 def read_word(part):
     if not re.fullmatch(rb"[0-9a-f]{4}", part):
-        raise BadLine
+        raise BadLine("no word")
     return int(part, 16)
 
 
@@ -1275,7 +1277,7 @@ class Bench:
         name, *parts = text.split(b" ")
         readers = self.PARTS.get(name)
         if readers is None or len(parts) != len(readers):
-            raise BadLine
+            raise BadLine("unknown word" if readers is None else "number of parts")
         return name.decode("ascii"), [read(part) for read, part in zip(readers, parts)]
 
     # Makes a call and writes its line; a refusal leaves everything.
