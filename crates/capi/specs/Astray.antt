@@ -1,7 +1,7 @@
 -- Making and reading by a record, computed: what each must hand back, and for each two and more wrong answers that its promise rules out
 -- (RULES 12.9). Assumes nothing.
 use Prim.Native.Nat.{ℕ}
-use mathlib.Core.Path.{_≡_, refl, sym, ap, _∙_}
+use mathlib.Core.Path.{_≡_, refl, ap}
 use mathlib.Core.List.{[], _∷_}
 use native.Mathlib.Omega.{arith}
 use lib.ListN.{replicate}
@@ -14,6 +14,7 @@ use Rattle.depot.specs.Making.{Sent, sending, frameBits, makeOf}
 use Rattle.depot.specs.Reading.{readOf}
 use Rattle.capi.specs.declared.Request.{Request}
 use Rattle.capi.specs.declared.Reply.{Reply}
+use Rattle.capi.specs.Wrong.{other}
 use Rattle.capi.specs.Depot.{commandOf, makeFor, readFor, replied, replyOf}
 
 -- a record by its kind, bank, pointer, count and word; every other field is 5, which means nothing to these kinds
@@ -68,10 +69,6 @@ cases =
       another = refl;
       read-unknown = refl;
     }
-
--- a number that is one thing is no other
-other : (x a b : ℕ) → x ≡ a → (a ≡ b → ⊥) → x ≡ b → ⊥
-other x a b e n f = n (sym e ∙ f)
 
 -- a Write sent uncovered; one whose word is cut to 16 bits; and a kind that is none taken for a command
 pub uncovered : fieldAt (made (of 8 1 2 0 0xEDCB) 9 .room) 18 16 ≡ 0xEDCB → ⊥

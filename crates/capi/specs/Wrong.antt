@@ -188,7 +188,7 @@ large =
     }
 
 -- a number that is one thing is no other
-other : (x a b : ℕ) → x ≡ a → (a ≡ b → ⊥) → x ≡ b → ⊥
+pub other : (x a b : ℕ) → x ≡ a → (a ≡ b → ⊥) → x ≡ b → ⊥
 other x a b e n f = n (sym e ∙ f)
 
 -- a half of Access that is written as one of Kill

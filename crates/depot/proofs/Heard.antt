@@ -13,9 +13,12 @@ use Rattle.bits.proofs.Bits.{length-bits}
 use Rattle.bits.proofs.Digits.{Bits, bits-of, bits-and}
 use Rattle.crc.specs.Crc.{crcOf}
 use Rattle.crc.specs.Crc5.{crc5Of}
+use Rattle.frames.specs.declared.Order.{Order}
 use Rattle.frames.specs.declared.Order.the-variants as order
 use Rattle.frames.specs.Message as heard
-use Rattle.frames.specs.Frames.{span, checksumRight, heardOf}
+use Rattle.ebv.specs.Ebv.{pointerAt}
+use Rattle.frames.specs.Frames.{span, checksumRight, exactly, heardOf}
+use Rattle.frames.specs.Frames as frames
 use Rattle.replies.specs.Replies.{checked}
 use Rattle.replies.specs.Pack.{packed}
 use Rattle.replies.proofs.Laws.{all-shown, length-packed}
@@ -25,7 +28,7 @@ use Rattle.depot.specs.declared.Command.{Command}
 use Rattle.depot.specs.declared.Command.the-variants as command
 use Rattle.depot.specs.Limits.{within}
 use Rattle.depot.specs.Making.{Field, fields, pointing, shapeBits, toOne, shapeOf, frameBits, sending, makeOf}
-use Rattle.depot.specs.Heard.{ebvBytes, carried, broughtAt, orderOf, Words, Call, made, Besides, Heard}
+use Rattle.depot.specs.Heard.{ebvBytes, carried, broughtAt, orderOf, Words, Call, made, Shortest, Besides, Heard}
 use Rattle.fields.specs.Steps.{sealBits}
 use Rattle.depot.specs.Steps.{layoutOf, openBits}
 use Rattle.depot.proofs.Bounds.{Placed, Queried, Within, within-so}
@@ -33,7 +36,7 @@ use Rattle.fields.proofs.Behind.{length-from}
 use Rattle.depot.proofs.Shapes.{summed, frame-laid, bits-open}
 use Rattle.depot.proofs.Standing.{parts, stand, whole, field-of}
 use Rattle.depot.proofs.Pointers.{none-shorter}
-use Rattle.depot.proofs.Hearing.{taken-so, exactly-so, plainly-so, by-name, query-rep, ack, query, query-adjust, select, place-width, place-read, whole5}
+use Rattle.depot.proofs.Hearing.{taken-so, exactly-so, plainly-so, named, by-name, query-rep, ack, query, query-adjust, select, place-width, place-read, whole5}
 use Rattle.depot.proofs.Hearing as hearing
 
 -- fields, payload and fields, each where it stands
@@ -159,38 +162,33 @@ module _ (d : List ℕ) (n k : ℕ) (small : n < 65536) (m : List ℕ) (size : �
   abbrev one : ℕ → List Field
   one code = (code, 8) ∷ []
 
-  read : (p : Place) (w : ℕ) → Placed p → w < 256 → Stands (command.Read p w) → Says (command.Read p w)
-  read p w h l s =
-      let a = pointed (one 0xC2) 8 p w 8 0 (one-width 0xC2 8) h l s in
-      let f = stand m 0 (one 0xC2) (omega arith, tt) (a .front) in
+  -- a place and one field of w bits, and no payload
+  naming : (code v w k : ℕ) (o : ℕ → ℕ → ℕ → Order) (p : Place) → 192 ≤ code → code < 208 → k ≡ 42 + w
+      → named m size code ≡ frames.pointed (pointerAt m size 10) (λ q e. exactly m size (k + 8 * e) (o (fieldAt m 8 2) q (fieldAt m (10 + 8 * e) w)))
+      → Placed p → v < 2 ^ w
+      → (let head = pointing (one code) p ((v, w) ∷ []) in (size ≡ length (shapeBits (toOne n head 0) d)) × (bitsFrom m 0 size ≡ shapeBits (toOne n head 0) d))
+      → (heardOf m size ≡ heard.said (record { number = n; order = o (p .bank) (p .pointer) v })) × Shortest m size 10 p
+  naming code v w k o p low high z r h l s =
+      let a = pointed (one code) 8 p v w 0 (one-width code 8) h l s in
+      let f = stand m 0 (one code) (omega (arith, high), tt) (a .front) in
       let e = ebvBytes (p .pointer) in (
-        by-name m size (omega (arith, a .total)) there 0xC2 (omega arith) (omega arith) (f .0)
-            ∙ rw (a .place .pointer, a .place .bank, a .place .after) (exactly-so m size (50 + 8 * e) n (order.Read (span (p .bank) (p .pointer) w)) (a .total ∙ omega arith) (a .right) (a .number)),
-        refl,
+        by-name m size (omega (arith, a .total)) there code low high (f .0)
+            ∙ r
+            ∙ rw (a .place .pointer, a .place .bank, a .place .after) (exactly-so m size (k + 8 * e) n (o (p .bank) (p .pointer) v) (a .total ∙ omega (arith, z)) (a .right) (a .number)),
         a .place .pointer,
       )
+
+  read : (p : Place) (w : ℕ) → Placed p → w < 256 → Stands (command.Read p w) → Says (command.Read p w)
+  read p w h l s =
+      let a = naming 0xC2 w 8 50 (λ b q c. order.Read (span b q c)) p (omega arith) (omega arith) refl refl h l s in (a .0, refl, a .1)
 
   block-erase : (p : Place) (w : ℕ) → Placed p → w < 256 → Stands (command.BlockErase p w) → Says (command.BlockErase p w)
   block-erase p w h l s =
-      let a = pointed (one 0xC8) 8 p w 8 0 (one-width 0xC8 8) h l s in
-      let f = stand m 0 (one 0xC8) (omega arith, tt) (a .front) in
-      let e = ebvBytes (p .pointer) in (
-        by-name m size (omega (arith, a .total)) there 0xC8 (omega arith) (omega arith) (f .0)
-            ∙ rw (a .place .pointer, a .place .bank, a .place .after) (exactly-so m size (50 + 8 * e) n (order.BlockErase (span (p .bank) (p .pointer) w)) (a .total ∙ omega arith) (a .right) (a .number)),
-        refl,
-        a .place .pointer,
-      )
+      let a = naming 0xC8 w 8 50 (λ b q c. order.BlockErase (span b q c)) p (omega arith) (omega arith) refl refl h l s in (a .0, refl, a .1)
 
   write : (p : Place) (w : ℕ) → Placed p → bitXor w k < 65536 → Stands (command.Write p w) → Says (command.Write p w)
   write p w h l s =
-      let a = pointed (one 0xC3) 8 p (bitXor w k) 16 0 (one-width 0xC3 8) h l s in
-      let f = stand m 0 (one 0xC3) (omega arith, tt) (a .front) in
-      let e = ebvBytes (p .pointer) in (
-        by-name m size (omega (arith, a .total)) there 0xC3 (omega arith) (omega arith) (f .0)
-            ∙ rw (a .place .pointer, a .place .bank, a .place .after) (exactly-so m size (58 + 8 * e) n (order.Write (span (p .bank) (p .pointer) 1) (bitXor w k)) (a .total ∙ omega arith) (a .right) (a .number)),
-        refl,
-        a .place .pointer,
-      )
+      let a = naming 0xC3 (bitXor w k) 16 58 (λ b q c. order.Write (span b q 1) c) p (omega arith) (omega arith) refl refl h l s in (a .0, refl, a .1)
 
   block-write : (p : Place) → Placed p → length d % 2 ≡ 0 → length d < 512 → Stands (command.BlockWrite p) → Says (command.BlockWrite p)
   block-write p h even most s =

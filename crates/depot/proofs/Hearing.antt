@@ -21,6 +21,7 @@ use Rattle.frames.specs.declared.Command.{Command}
 use Rattle.frames.specs.Message.{Message}
 use Rattle.frames.specs.Message as heard
 use Rattle.frames.specs.Frames.{checksumRight, checksum5Right, taken, exactly, plainly, toAll, queryFrame, selectFrame, readFrame, writeFrame, blockWriteFrame, blockEraseFrame, permalockFrame, heardOf}
+use Rattle.frames.specs.Steps.{queryRepFrame, ackFrame, queryAdjustFrame, nakFrame, reqRnFrame, killFrame, lockFrame, accessFrame}
 use Rattle.frames.proofs.Codes.{two-bits, four-bits}
 use Rattle.depot.specs.declared.Place.{Place}
 use Rattle.depot.specs.Making.{Field, fields, shortest, pointing}
@@ -43,16 +44,16 @@ pub plainly-so : (n k : ℕ) (o : Order) → n ≡ k → plainly n k o ≡ heard
 plainly-so n k o e = simp (eq-eqb n k e)
 
 -- a code of eight bits chooses its frame
-abbrev named : List ℕ → ℕ → ℕ → Message
+abbrev pub named : List ℕ → ℕ → ℕ → Message
 named m n code =
     first
-    ((plainly n 8 order.Nak, eqb code 0xC0)
-    ∷ (exactly m n 40 order.ReqRn, eqb code 0xC1)
+    ((nakFrame n, eqb code 0xC0)
+    ∷ (reqRnFrame m n, eqb code 0xC1)
     ∷ (readFrame m n, eqb code 0xC2)
     ∷ (writeFrame m n, eqb code 0xC3)
-    ∷ (exactly m n 59 (order.Kill (fieldAt m 8 16)), eqb code 0xC4)
-    ∷ (exactly m n 60 (order.Lock (fieldAt m 8 10) (fieldAt m 18 10)), eqb code 0xC5)
-    ∷ (exactly m n 56 (order.Access (fieldAt m 8 16)), eqb code 0xC6)
+    ∷ (killFrame m n, eqb code 0xC4)
+    ∷ (lockFrame m n, eqb code 0xC5)
+    ∷ (accessFrame m n, eqb code 0xC6)
     ∷ (blockWriteFrame m n, eqb code 0xC7)
     ∷ (blockEraseFrame m n, eqb code 0xC8)
     ∷ (permalockFrame m n, eqb code 0xC9)
@@ -67,11 +68,11 @@ module _ (m : List ℕ) (n : ℕ) (a : 4 ≤ n) (b : n ≤ 8 * length m) where
       let four : fieldAt m 0 4 ≡ 12 = four-bits m 12 (omega (arith, e)) (omega (arith, e)) in
       simp (le-ltb _ _ a, le-ltb _ _ b, two, four, e)
 
-  pub query-rep : fieldAt m 0 2 ≡ 0 → heardOf m n ≡ plainly n 4 (order.QueryRep (fieldAt m 2 2))
+  pub query-rep : fieldAt m 0 2 ≡ 0 → heardOf m n ≡ queryRepFrame m n
   unfolding heardOf
   query-rep e = simp (le-ltb _ _ a, le-ltb _ _ b, e)
 
-  pub ack : fieldAt m 0 2 ≡ 1 → heardOf m n ≡ plainly n 18 (order.Ack (fieldAt m 2 16))
+  pub ack : fieldAt m 0 2 ≡ 1 → heardOf m n ≡ ackFrame m n
   unfolding heardOf
   ack e = simp (le-ltb _ _ a, le-ltb _ _ b, e)
 
@@ -83,7 +84,7 @@ module _ (m : List ℕ) (n : ℕ) (a : 4 ≤ n) (b : n ≤ 8 * length m) where
   unfolding heardOf
   query e = simp (le-ltb _ _ a, le-ltb _ _ b, top 8 e, e)
 
-  pub query-adjust : fieldAt m 0 4 ≡ 9 → heardOf m n ≡ plainly n 9 (order.QueryAdjust (fieldAt m 4 2) (fieldAt m 6 3))
+  pub query-adjust : fieldAt m 0 4 ≡ 9 → heardOf m n ≡ queryAdjustFrame m n
   unfolding heardOf
   query-adjust e = simp (le-ltb _ _ a, le-ltb _ _ b, top 9 e, e)
 

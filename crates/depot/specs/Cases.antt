@@ -2,7 +2,7 @@
 use Prim.Native.Nat.{ℕ, _+_, _*_}
 use mathlib.Core.Path.{_≡_, refl}
 use mathlib.Core.Bool.{true, false}
-use mathlib.Core.List.{List, [], _∷_}
+use mathlib.Core.List.{List, [], _∷_, map}
 use lib.ListN.{length, replicate}
 use Rattle.bits.specs.Bits.{fieldAt, bitsOf}
 use Rattle.crc.specs.Crc.{crcOf}
@@ -153,141 +153,85 @@ rooms = record {
   nine-bits = refl;
 }
 
-abbrev passed : Command → List ℕ → Type 0
-passed o d = makeOf o d 0xABCD 0xFFFF (0x55 ∷ []) ≡ sending 9 0 (0x55 ∷ [])
+-- commands with their payload, each past one limit
+abbrev pastLimits : List (Command × List ℕ)
+pastLimits =
+    (command.Read (place 4 0) 1, [])
+    ∷ (command.Read (place 3 0x200000) 1, [])
+    ∷ (command.Read (place 3 0) 256, [])
+    ∷ (command.Write (place 4 0) 0, [])
+    ∷ (command.Write (place 3 0x200000) 0, [])
+    ∷ (command.Lock 0x400 0, [])
+    ∷ (command.Lock 0 0x400, [])
+    ∷ (command.BlockWrite (place 4 0), replicate 2 0)
+    ∷ (command.BlockWrite (place 3 0x200000), replicate 2 0)
+    ∷ (command.BlockWrite (place 3 0), [])
+    ∷ (command.BlockWrite (place 3 0), replicate 3 0)
+    ∷ (command.BlockWrite (place 3 0), replicate 512 0)
+    ∷ (command.BlockErase (place 4 0) 1, [])
+    ∷ (command.BlockErase (place 3 0x200000) 1, [])
+    ∷ (command.BlockErase (place 3 0) 0, [])
+    ∷ (command.BlockErase (place 3 0) 256, [])
+    ∷ (command.ReadPermalock (place 4 0) 1, [])
+    ∷ (command.ReadPermalock (place 3 0x200000) 1, [])
+    ∷ (command.ReadPermalock (place 3 0) 0, [])
+    ∷ (command.ReadPermalock (place 3 0) 256, [])
+    ∷ (command.Permalock (place 4 0), replicate 2 0)
+    ∷ (command.Permalock (place 3 0x200000), replicate 2 0)
+    ∷ (command.Permalock (place 3 0), [])
+    ∷ (command.Permalock (place 3 0), replicate 3 0)
+    ∷ (command.Permalock (place 3 0), replicate 512 0)
+    ∷ (command.Select 5 0 (place 1 0) 8, 0 ∷ [])
+    ∷ (command.Select 0 8 (place 1 0) 8, 0 ∷ [])
+    ∷ (command.Select 0 0 (place 0 0) 8, 0 ∷ [])
+    ∷ (command.Select 0 0 (place 4 0) 8, 0 ∷ [])
+    ∷ (command.Select 0 0 (place 1 0x200000) 8, 0 ∷ [])
+    ∷ (command.Select 0 0 (place 1 0) 256, replicate 32 0)
+    ∷ (command.Select 0 0 (place 1 0) 9, 0 ∷ [])
+    ∷ (command.Select 0 0 (place 1 0) 8, 0 ∷ 0 ∷ [])
+    ∷ (command.Query (round 2 0 0 0 0 0 0), [])
+    ∷ (command.Query (round 0 4 0 0 0 0 0), [])
+    ∷ (command.Query (round 0 0 2 0 0 0 0), [])
+    ∷ (command.Query (round 0 0 0 4 0 0 0), [])
+    ∷ (command.Query (round 0 0 0 0 4 0 0), [])
+    ∷ (command.Query (round 0 0 0 0 0 2 0), [])
+    ∷ (command.Query (round 0 0 0 0 0 0 16), [])
+    ∷ (command.QueryAdjust 4 0, [])
+    ∷ (command.QueryAdjust 0 1, [])
+    ∷ (command.QueryAdjust 0 7, [])
+    ∷ (command.QueryAdjust 0 8, [])
+    ∷ (command.QueryRep 4, [])
+    ∷ []
 
--- each limit passed: 9, and no byte changes; in a room that is too small as well (a QueryRep's when it has no byte), so 9 is before 4
-pub record Beyond : Type 0 where
-  pub read-bank : passed (command.Read (place 4 0) 1) []
-  pub read-pointer : passed (command.Read (place 3 0x200000) 1) []
-  pub read-count : passed (command.Read (place 3 0) 256) []
-  pub write-bank : passed (command.Write (place 4 0) 0) []
-  pub write-pointer : passed (command.Write (place 3 0x200000) 0) []
-  pub lock-mask : passed (command.Lock 0x400 0) []
-  pub lock-action : passed (command.Lock 0 0x400) []
-  pub blockWrite-bank : passed (command.BlockWrite (place 4 0)) (replicate 2 0)
-  pub blockWrite-pointer : passed (command.BlockWrite (place 3 0x200000)) (replicate 2 0)
-  pub blockWrite-none : passed (command.BlockWrite (place 3 0)) []
-  pub blockWrite-odd : passed (command.BlockWrite (place 3 0)) (replicate 3 0)
-  pub blockWrite-many : passed (command.BlockWrite (place 3 0)) (replicate 512 0)
-  pub blockErase-bank : passed (command.BlockErase (place 4 0) 1) []
-  pub blockErase-pointer : passed (command.BlockErase (place 3 0x200000) 1) []
-  pub blockErase-none : passed (command.BlockErase (place 3 0) 0) []
-  pub blockErase-many : passed (command.BlockErase (place 3 0) 256) []
-  pub readPermalock-bank : passed (command.ReadPermalock (place 4 0) 1) []
-  pub readPermalock-pointer : passed (command.ReadPermalock (place 3 0x200000) 1) []
-  pub readPermalock-none : passed (command.ReadPermalock (place 3 0) 0) []
-  pub readPermalock-many : passed (command.ReadPermalock (place 3 0) 256) []
-  pub permalock-bank : passed (command.Permalock (place 4 0)) (replicate 2 0)
-  pub permalock-pointer : passed (command.Permalock (place 3 0x200000)) (replicate 2 0)
-  pub permalock-none : passed (command.Permalock (place 3 0)) []
-  pub permalock-odd : passed (command.Permalock (place 3 0)) (replicate 3 0)
-  pub permalock-many : passed (command.Permalock (place 3 0)) (replicate 512 0)
-  pub select-target : passed (command.Select 5 0 (place 1 0) 8) (0 ∷ [])
-  pub select-action : passed (command.Select 0 8 (place 1 0) 8) (0 ∷ [])
-  pub select-bank-0 : passed (command.Select 0 0 (place 0 0) 8) (0 ∷ [])
-  pub select-bank-4 : passed (command.Select 0 0 (place 4 0) 8) (0 ∷ [])
-  pub select-pointer : passed (command.Select 0 0 (place 1 0x200000) 8) (0 ∷ [])
-  pub select-length : passed (command.Select 0 0 (place 1 0) 256) (replicate 32 0)
-  pub select-few : passed (command.Select 0 0 (place 1 0) 9) (0 ∷ [])
-  pub select-many : passed (command.Select 0 0 (place 1 0) 8) (0 ∷ 0 ∷ [])
-  pub query-dr : passed (command.Query (round 2 0 0 0 0 0 0)) []
-  pub query-m : passed (command.Query (round 0 4 0 0 0 0 0)) []
-  pub query-trext : passed (command.Query (round 0 0 2 0 0 0 0)) []
-  pub query-sel : passed (command.Query (round 0 0 0 4 0 0 0)) []
-  pub query-session : passed (command.Query (round 0 0 0 0 4 0 0)) []
-  pub query-target : passed (command.Query (round 0 0 0 0 0 2 0)) []
-  pub query-q : passed (command.Query (round 0 0 0 0 0 0 16)) []
-  pub queryAdjust-session : passed (command.QueryAdjust 4 0) []
-  pub queryAdjust-1 : passed (command.QueryAdjust 0 1) []
-  pub queryAdjust-7 : passed (command.QueryAdjust 0 7) []
-  pub queryAdjust-8 : passed (command.QueryAdjust 0 8) []
-  pub queryRep : passed (command.QueryRep 4) []
-  pub queryRep-no-room : into (command.QueryRep 4) [] ≡ sending 9 0 []
-
-pub beyond : Beyond
+-- each is 9, and no byte changes; in a room that is too small as well (a QueryRep's when it has no byte), so 9 is before 4
+pub beyond : map (λ (c : Command × List ℕ). makeOf (c .0) (c .1) 0xABCD 0xFFFF (0x55 ∷ [])) pastLimits ≡ replicate (length pastLimits) (sending 9 0 (0x55 ∷ []))
 unfolding makeOf
-beyond = record {
-  read-bank = refl;
-  read-pointer = refl;
-  read-count = refl;
-  write-bank = refl;
-  write-pointer = refl;
-  lock-mask = refl;
-  lock-action = refl;
-  blockWrite-bank = refl;
-  blockWrite-pointer = refl;
-  blockWrite-none = refl;
-  blockWrite-odd = refl;
-  blockWrite-many = refl;
-  blockErase-bank = refl;
-  blockErase-pointer = refl;
-  blockErase-none = refl;
-  blockErase-many = refl;
-  readPermalock-bank = refl;
-  readPermalock-pointer = refl;
-  readPermalock-none = refl;
-  readPermalock-many = refl;
-  permalock-bank = refl;
-  permalock-pointer = refl;
-  permalock-none = refl;
-  permalock-odd = refl;
-  permalock-many = refl;
-  select-target = refl;
-  select-action = refl;
-  select-bank-0 = refl;
-  select-bank-4 = refl;
-  select-pointer = refl;
-  select-length = refl;
-  select-few = refl;
-  select-many = refl;
-  query-dr = refl;
-  query-m = refl;
-  query-trext = refl;
-  query-sel = refl;
-  query-session = refl;
-  query-target = refl;
-  query-q = refl;
-  queryAdjust-session = refl;
-  queryAdjust-1 = refl;
-  queryAdjust-7 = refl;
-  queryAdjust-8 = refl;
-  queryRep = refl;
-  queryRep-no-room = refl;
-}
+beyond = refl
 
--- the last that is within each limit
-pub record Within : Type 0 where
-  pub query : within (command.Query (round 1 3 1 3 3 1 15)) 0 ≡ true
-  pub queryAdjust : within (command.QueryAdjust 3 3) 0 ≡ true
-  pub queryAdjust-0 : within (command.QueryAdjust 3 0) 0 ≡ true
-  pub queryRep : within (command.QueryRep 3) 0 ≡ true
-  pub select : within (command.Select 4 7 (place 3 0x1FFFFF) 255) 32 ≡ true
-  pub read : within (command.Read (place 3 0x1FFFFF) 255) 0 ≡ true
-  pub read-none : within (command.Read (place 0 0) 0) 0 ≡ true
-  pub write : within (command.Write (place 3 0x1FFFFF) 0xFFFF) 0 ≡ true
-  pub lock : within (command.Lock 0x3FF 0x3FF) 0 ≡ true
-  pub blockWrite : within (command.BlockWrite (place 3 0x1FFFFF)) 510 ≡ true
-  pub blockErase : within (command.BlockErase (place 3 0x1FFFFF) 255) 0 ≡ true
-  pub readPermalock : within (command.ReadPermalock (place 1 0x1FFFFF) 255) 0 ≡ true
-  pub permalock : within (command.Permalock (place 1 0x1FFFFF)) 510 ≡ true
+pub beyond-no-room : into (command.QueryRep 4) [] ≡ sending 9 0 []
+unfolding makeOf
+beyond-no-room = refl
 
-pub edges : Within
-edges = record {
-  query = refl;
-  queryAdjust = refl;
-  queryAdjust-0 = refl;
-  queryRep = refl;
-  select = refl;
-  read = refl;
-  read-none = refl;
-  write = refl;
-  lock = refl;
-  blockWrite = refl;
-  blockErase = refl;
-  readPermalock = refl;
-  permalock = refl;
-}
+-- the last that is within each limit, with the bytes of its payload
+abbrev lastWithin : List (Command × ℕ)
+lastWithin =
+    (command.Query (round 1 3 1 3 3 1 15), 0)
+    ∷ (command.QueryAdjust 3 3, 0)
+    ∷ (command.QueryAdjust 3 0, 0)
+    ∷ (command.QueryRep 3, 0)
+    ∷ (command.Select 4 7 (place 3 0x1FFFFF) 255, 32)
+    ∷ (command.Read (place 3 0x1FFFFF) 255, 0)
+    ∷ (command.Read (place 0 0) 0, 0)
+    ∷ (command.Write (place 3 0x1FFFFF) 0xFFFF, 0)
+    ∷ (command.Lock 0x3FF 0x3FF, 0)
+    ∷ (command.BlockWrite (place 3 0x1FFFFF), 510)
+    ∷ (command.BlockErase (place 3 0x1FFFFF) 255, 0)
+    ∷ (command.ReadPermalock (place 1 0x1FFFFF) 255, 0)
+    ∷ (command.Permalock (place 1 0x1FFFFF), 510)
+    ∷ []
+
+pub edges : map (λ (c : Command × ℕ). within (c .0) (c .1)) lastWithin ≡ replicate (length lastWithin) true
+edges = refl
 
 -- what the first n bits of the bytes m say, in reply to a command with the handle BEEFh
 abbrev pub told : Command → List ℕ → ℕ → List ℕ → Told

@@ -7,7 +7,7 @@ use lib.ListN.{getD, replicate}
 use Rattle.depot.specs.declared.Command.the-variants as command
 use Rattle.depot.specs.Making.{Sent, sending}
 use Rattle.readings.specs.Reading.{Told, error, words, number, done, refused}
-use Rattle.depot.specs.Cases.{place, round, made, into, frames, pointers, rooms, beyond, told, fresh, success, refusals}
+use Rattle.depot.specs.Cases.{place, round, made, into, frames, pointers, rooms, beyond-no-room, told, fresh, success, refusals}
 
 -- byte i of the room
 abbrev byte : ℕ → Sent → ℕ
@@ -49,7 +49,7 @@ spare-kept = other (byte 0) _ _ _ (rooms .last-byte) (λ z. omega (arith, z))
 
 -- 4 where it must be 9; and a refusal that changes a byte
 pub room-first : into (command.QueryRep 4) [] ≡ sending 4 0 [] → ⊥
-room-first = other (λ s. s .number) _ _ _ (beyond .queryRep-no-room) (λ z. omega (arith, z))
+room-first = other (λ s. s .number) _ _ _ beyond-no-room (λ z. omega (arith, z))
 
 pub refused-changes : into (command.Read (place 3 234) 5) (replicate 8 0x55) ≡ sending 4 0 (0xC2 ∷ replicate 7 0x55) → ⊥
 refused-changes = other (byte 0) _ _ _ (rooms .short) (λ z. omega (arith, z))

@@ -20,35 +20,34 @@ pub struct Layout {
     pub check: usize,
 }
 
+fn field(value: u32, bits: usize) -> Field
+    ensures { λ r. ⌜ r ≡ fieldOf value bits ⌝ }
+{
+    Field { value, bits }
+}
+
 // A pointer in its shortest form.
 fn ebv(p: u32) -> Field
     ensures { λ r. ⌜ r ≡ ebvOf p ⌝ }
 {
     let last = p % 128;
     if p < 128 {
-        return Field {
-            value: last,
-            bits: 8,
-        };
+        return field(last, 8);
     }
     let middle = (128 + p / 128 % 128) * 256 + last;
     if p < 16384 {
-        return Field {
-            value: middle,
-            bits: 16,
-        };
+        return field(middle, 16);
     }
-    let value = (128 + p / 16384 % 128) * 65536 + middle;
-    Field { value, bits: 24 }
+    field((128 + p / 16384 % 128) * 65536 + middle, 24)
 }
 
 // A frame of one number and its check.
 fn plain(value: u32, bits: usize, check: usize) -> Layout
     ensures { λ r. ⌜ r ≡ plainOf value bits check ⌝ }
 {
-    let none = Field { value: 0, bits: 0 };
+    let none = field(0, 0);
     Layout {
-        front: Field { value, bits },
+        front: field(value, bits),
         middle: none,
         back: none,
         body: 0,
@@ -57,22 +56,26 @@ fn plain(value: u32, bits: usize, check: usize) -> Layout
     }
 }
 
+// A frame of three numbers and the one that it carries.
+fn addressed(front: Field, middle: Field, back: Field, number: u16, check: usize) -> Layout
+    ensures { λ r. ⌜ r ≡ addressedOf front middle back number check ⌝ }
+{
+    Layout {
+        front,
+        middle,
+        back,
+        body: 0,
+        tail: field(number as u32, 16),
+        check,
+    }
+}
+
 // A frame of its code and the number that it carries.
 fn numbered(code: u32, bits: usize, number: u16, check: usize) -> Layout
     ensures { λ r. ⌜ r ≡ addressedOf (fieldOf code bits) (fieldOf 0 0) (fieldOf 0 0) number check ⌝ }
 {
-    let none = Field { value: 0, bits: 0 };
-    Layout {
-        front: Field { value: code, bits },
-        middle: none,
-        back: none,
-        body: 0,
-        tail: Field {
-            value: number as u32,
-            bits: 16,
-        },
-        check,
-    }
+    let none = field(0, 0);
+    addressed(field(code, bits), none, none, number, check)
 }
 
 // A word or half as it is sent.
@@ -88,51 +91,15 @@ fn covered(word: u16, cover: u16) -> u32
 fn halved(code: u32, half: u16, cover: u16, spare: usize, number: u16) -> Layout
     ensures { λ r. ⌜ r ≡ addressedOf (fieldOf code 8) (fieldOf (bitXor half cover) 16) (fieldOf 0 spare) number 16 ⌝ }
 {
-    Layout {
-        front: Field {
-            value: code,
-            bits: 8,
-        },
-        middle: Field {
-            value: covered(half, cover),
-            bits: 16,
-        },
-        back: Field {
-            value: 0,
-            bits: spare,
-        },
-        body: 0,
-        tail: Field {
-            value: number as u32,
-            bits: 16,
-        },
-        check: 16,
-    }
+    let sent = field(covered(half, cover), 16);
+    addressed(field(code, 8), sent, field(0, spare), number, 16)
 }
 
 fn lock(mask: u16, action: u16, number: u16) -> Layout
     ensures { λ r. ⌜ r ≡ addressedOf (fieldOf 0xC5 8) (fieldOf mask 10) (fieldOf action 10) number 16 ⌝ }
 {
-    Layout {
-        front: Field {
-            value: 0xC5,
-            bits: 8,
-        },
-        middle: Field {
-            value: mask as u32,
-            bits: 10,
-        },
-        back: Field {
-            value: action as u32,
-            bits: 10,
-        },
-        body: 0,
-        tail: Field {
-            value: number as u32,
-            bits: 16,
-        },
-        check: 16,
-    }
+    let masked = field(mask as u32, 10);
+    addressed(field(0xC5, 8), masked, field(action as u32, 10), number, 16)
 }
 
 // A frame to one tag with a place: a code of so many bits stands before the bank, a number of so many after the pointer, and then so many bits of the payload.
@@ -149,17 +116,11 @@ fn pointing(
     ensures { λ r. ⌜ r ≡ pointingOf code bits p (fieldOf value wide) body number ⌝ }
 {
     Layout {
-        front: Field {
-            value: code * 4 + p.bank % 4,
-            bits: bits + 2,
-        },
+        front: field(code * 4 + p.bank % 4, bits + 2),
         middle: ebv(p.pointer),
-        back: Field { value, bits: wide },
+        back: field(value, wide),
         body,
-        tail: Field {
-            value: number as u32,
-            bits: 16,
-        },
+        tail: field(number as u32, 16),
         check: 16,
     }
 }
@@ -178,17 +139,11 @@ fn select(target: u32, action: u32, p: Place, length: u32) -> Layout
 {
     let front = ((10 * 8 + target % 8) * 8 + action % 8) * 4 + p.bank % 4;
     Layout {
-        front: Field {
-            value: front,
-            bits: 12,
-        },
+        front: field(front, 12),
         middle: ebv(p.pointer),
-        back: Field {
-            value: length,
-            bits: 8,
-        },
+        back: field(length, 8),
         body: length as usize,
-        tail: Field { value: 0, bits: 1 },
+        tail: field(0, 1),
         check: 16,
     }
 }

@@ -5,16 +5,16 @@ use Rattle.depot.proofs.laying.ebv.Statement.{statement}
 use Rattle.depot.proofs.laying.ebv.Tie as tie
 
 returns : tie.Need-returns
-returns c = simp (lt-ltb _ _ (c .if1 .taken))
+returns c = rw (c .field .ensures) (simp (lt-ltb _ _ (c .before .if1 .taken)))
 
 returns-2 : tie.Need-returns-2
-returns-2 c = simp (le-ltb _ _ (c .before .if1 .left), lt-ltb _ _ (c .if2 .taken))
+returns-2 c = rw (c .field2 .ensures) (simp (le-ltb _ _ (c .before .before .if1 .left), lt-ltb _ _ (c .before .if2 .taken)))
 
 returns-3 : tie.Need-returns-3
-returns-3 c = simp (le-ltb _ _ (c .before .if1 .left), le-ltb _ _ (c .if2 .left))
+returns-3 c = rw (c .field3 .ensures) (simp (le-ltb _ _ (c .before .before .if1 .left), le-ltb _ _ (c .before .if2 .left)))
 
 pub ebv-spec : {M : Type 1} → statement M
 ebv-spec =
     tie.close
-    (tie.spec returns (search needs) (search needs) (search needs) returns-2 (search needs) (search needs)
-    (search needs) returns-3)
+    (tie.spec (search needs) returns (search needs) (search needs) (search needs) (search needs) returns-2
+    (search needs) (search needs) (search needs) (search needs) returns-3)
