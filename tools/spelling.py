@@ -96,6 +96,11 @@ def without_binder(text):
     return re.sub(r"ensures(\*) \{ λ (\w+)\. ⌜ ([^\n]*) ⌝ \}", clause, text)
 
 
+# the names under which src/ imports definitions beside functions of the same name
+def aliases(text):
+    return re.sub(r"\b[a-z]+Of\b|\bnoPlace\b", lambda m: snake(m.group(0)), text)
+
+
 def clashes(turned):
     for path in sources():
         words = set(WORD.findall(dashes_back(path, bare(open(path).read()))))
@@ -119,7 +124,7 @@ def main():
         text = open(path).read()
         made = result_of(path, turn(dashes_back(path, text), turned))
         if path.endswith(".rt"):
-            made = without_binder(made)
+            made = without_binder(aliases(made))
         if made != text:
             open(path, "w").write(made)
 

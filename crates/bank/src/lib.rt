@@ -1,4 +1,6 @@
 // A view of one bank: it shows that bank's words and no other (RULES 9.1).
+#![tactic(auto)]
+
 ghost use Rattle.std.specs.Prelude.{◌≡◌, ◌*◌, ◌/◌, ◌≤◌, length};
 ghost use Rattle.image.specs.Layout.{end as end_of};
 ghost use Rattle.image.specs.Check.{row_of, check_of};

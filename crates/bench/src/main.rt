@@ -1,4 +1,6 @@
 // Drives one image and one session by a list of commands: a line of input, a line of output.
+#![tactic(auto)]
+
 mod calls;
 mod writing;
 

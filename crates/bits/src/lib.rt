@@ -1,7 +1,9 @@
 // Words, bits and fields of lent bytes, the highest first. Past the end a byte reads 0, and a store there changes nothing.
+#![tactic(auto)]
+
 ghost use Rattle.std.specs.Prelude.{◌≡◌, ◌&&◌, ◌||◌, ◌+◌, ◌-◌, ◌*◌, ◌/◌, ◌^◌, ◌≤◌, ◌<◌, length, get_or, set};
 ghost use Rattle.bits.specs.Words.{Bytes, word_at, with_word};
-ghost use Rattle.bits.specs.Bits.{bit_at, field_at, alike as alikeOf};
+ghost use Rattle.bits.specs.Bits.{bit_at, field_at, alike as alike_of};
 ghost use Rattle.bits.specs.Steps.{window_at};
 
 // Byte i.
@@ -156,7 +158,7 @@ fn at_most_16(n: usize) -> usize
 // Whether the n bits of a from bit i on are those of b from bit j on: 16 at a time, wherever they lie.
 fn alike_slowly(a: &[u8], i: usize, b: &[u8], j: usize, n: usize) -> bool
     requires { (i < 2 ^ 32) × (j < 2 ^ 32) × (n < 256) }
-    ensures { result ≡ alikeOf a.now i b.now j n }
+    ensures { result ≡ alike_of a.now i b.now j n }
 {
     let mut k: usize = 0;
     while k < n {
@@ -172,7 +174,7 @@ fn alike_slowly(a: &[u8], i: usize, b: &[u8], j: usize, n: usize) -> bool
 // The same for up to 56 bits: at once, unless they lie near the end.
 fn alike_at_once(a: &[u8], i: usize, b: &[u8], j: usize, n: usize) -> bool
     requires { (i < 2 ^ 32) × (j < 2 ^ 32) × (n ≤ 56) }
-    ensures { result ≡ alikeOf a.now i b.now j n }
+    ensures { result ≡ alike_of a.now i b.now j n }
 {
     if n == 0 || a.len() < i / 8 + 8 || b.len() < j / 8 + 8 {
         return alike_slowly(a, i, b, j, n);
@@ -183,7 +185,7 @@ fn alike_at_once(a: &[u8], i: usize, b: &[u8], j: usize, n: usize) -> bool
 // The same: 56 bits at a time and then the last 56, unless they lie near the end.
 pub fn alike(a: &[u8], i: usize, b: &[u8], j: usize, n: usize) -> bool
     requires { (i < 2 ^ 32) × (j < 2 ^ 32) × (n < 256) }
-    ensures { result ≡ alikeOf a.now i b.now j n }
+    ensures { result ≡ alike_of a.now i b.now j n }
 {
     if n < 56 {
         return alike_at_once(a, i, b, j, n);

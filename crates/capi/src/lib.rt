@@ -1,4 +1,6 @@
 // What firmware links (RULES 10): each operation over numbers, lent bytes and records of numbers.
+#![tactic(auto)]
+
 ghost use Rattle.std.specs.Prelude.{◌≡◌, []};
 ghost use Rattle.image.specs.Check.{check_of};
 ghost use Rattle.tag.specs.Power.{power_up_of};

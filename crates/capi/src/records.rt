@@ -7,14 +7,14 @@ ghost use Rattle.tag.specs.Records.{session_of, in_numbers};
 ghost use Rattle.tag.specs.ByNumber.{noted};
 ghost use Rattle.tag.specs.RecordSteps.{off_record};
 ghost use Rattle.capi.specs.Steps.{killed_numbers, told_with};
-ghost use Rattle.capi.specs.Told.{told as toldOf};
+ghost use Rattle.capi.specs.Told.{told as told_of};
 
 use crate::Told;
 use states::{Numbers, Record};
 
 // An outcome as numbers.
 pub fn outcome(o: tag::Outcome) -> Told
-    ensures { ((image room : List ℕ) → toldOf result image room ≡ in_numbers (result_of o image room)) }
+    ensures { ((image room : List ℕ) → told_of result image room ≡ in_numbers (result_of o image room)) }
 {
     let answer = o.answer;
     let session = o.session;
@@ -29,7 +29,7 @@ pub fn outcome(o: tag::Outcome) -> Told
 
 // What a frame left, as numbers.
 pub fn frame_told(o: tag::Noted) -> Told
-    ensures { ((image room : List ℕ) → toldOf result image room ≡ noted o image room) }
+    ensures { ((image room : List ℕ) → told_of result image room ≡ noted o image room) }
 {
     let answer = o.answer;
     let session = o.session;

@@ -1,13 +1,13 @@
 // The image check's answer as numbers (RULES 10.4).
 ghost use Rattle.std.specs.Prelude.{◌≡◌};
 ghost use Rattle.image.specs.Check.{check_of};
-ghost use Rattle.capi.specs.Told.{nowhere as noPlace, refused_sheet, layout_sheet, sheet_of};
+ghost use Rattle.capi.specs.Told.{nowhere as no_place, refused_sheet, layout_sheet, sheet_of};
 
 use crate::{Place, Sheet};
 use image::Layout;
 
 fn nowhere() -> Place
-    ensures { result ≡ noPlace }
+    ensures { result ≡ no_place }
 {
     Place { at: 0, words: 0 }
 }

@@ -1,4 +1,6 @@
 // Storing a command's words as one change, by where they come from (RULES 2.1). Each answers the stores made, of at most s.
+#![tactic(auto)]
+
 ghost use Rattle.std.specs.Prelude.{◌≡◌, [], ◌∷◌, ℕ, ◌+◌, ◌*◌, ◌^◌, ◌≤◌, ◌<◌, length};
 ghost use Rattle.std.specs.Int.Bits.{bit_or};
 ghost use Rattle.bits.specs.Words.{word_at, store as store_of};

@@ -1,4 +1,6 @@
 // CRC-16 of lent bytes' bits (RULES 2.8): by eight bytes, then the rest at once, or bit by bit where it is under 16 bits. CRC-5 of the first 17.
+#![tactic(auto)]
+
 ghost use Rattle.std.specs.Prelude.{◌≡◌, ◌+◌, ◌-◌, ◌/◌, ◌*◌, ◌%◌, ◌^◌, ◌≤◌, ◌<◌, length};
 ghost use Rattle.bits.specs.Bits.{bits_from, bits_of, field_at};
 ghost use Rattle.crc.specs.Crc.{crc_of, run, shift};

@@ -1,5 +1,7 @@
 // The buyer's demands, as theorems over the tag's promises (RULES D1 to D3). Its functions only tie the two: each is an operation of the tag, and promises what the
 // demands speak of (`Meets answer_of`). Were an operation's promise another one, the check would refuse it here.
+#![tactic(auto)]
+
 ghost use Rattle.std.specs.Prelude.{◌≡◌, []};
 ghost use Rattle.image.specs.Check.{meaning, check_of};
 ghost use Rattle.demands.specs.Calls.{tag_of, answer_of, Meets};

@@ -1,4 +1,6 @@
 // Plays how a reader finds the tag, and how a gate writes a loan entry and the power is cut: a line for each number of stores made before the cut, and for each store torn by it (RULES 8.4).
+#![tactic(auto)]
+
 ghost use Rattle.std.specs.Prelude.{◌<◌};
 
 mod playing;

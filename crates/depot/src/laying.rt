@@ -2,7 +2,7 @@
 ghost use Rattle.std.specs.Prelude.{◌≡◌, true, ◌*◌, ◌/◌, ◌^◌, ◌≤◌, ◌<◌};
 ghost use Rattle.std.specs.Int.Bits.{bit_xor};
 ghost use Rattle.depot.specs.Limits.{within};
-ghost use Rattle.depot.specs.Steps.{field as field_of, ebv as ebvOf, plain as plain_of, addressed as addressedOf, pointing as pointingOf, query_of, select_of, layout_of, Narrow, total_of};
+ghost use Rattle.depot.specs.Steps.{field as field_of, ebv as ebv_of, plain as plain_of, addressed as addressed_of, pointing as pointing_of, query_of, select_of, layout_of, Narrow, total_of};
 
 use crate::{Command, Place, Round};
 use fields::Field;
@@ -26,7 +26,7 @@ fn field(value: u32, bits: usize) -> Field
 
 // A pointer in its shortest form.
 fn ebv(p: u32) -> Field
-    ensures { result ≡ ebvOf p }
+    ensures { result ≡ ebv_of p }
 {
     let last = p % 128;
     if p < 128 {
@@ -56,7 +56,7 @@ fn plain(value: u32, bits: usize, check: usize) -> Layout
 
 // A frame of three numbers and the one that it carries.
 fn addressed(front: Field, middle: Field, back: Field, number: u16, check: usize) -> Layout
-    ensures { result ≡ addressedOf front middle back number check }
+    ensures { result ≡ addressed_of front middle back number check }
 {
     Layout {
         front,
@@ -70,7 +70,7 @@ fn addressed(front: Field, middle: Field, back: Field, number: u16, check: usize
 
 // A frame of its code and the number that it carries.
 fn numbered(code: u32, bits: usize, number: u16, check: usize) -> Layout
-    ensures { result ≡ addressedOf (field_of code bits) (field_of 0 0) (field_of 0 0) number check }
+    ensures { result ≡ addressed_of (field_of code bits) (field_of 0 0) (field_of 0 0) number check }
 {
     let none = field(0, 0);
     addressed(field(code, bits), none, none, number, check)
@@ -87,14 +87,14 @@ fn covered(word: u16, cover: u16) -> u32
 
 // A frame to one tag with a half, and so many 0 bits behind it.
 fn halved(code: u32, half: u16, cover: u16, spare: usize, number: u16) -> Layout
-    ensures { result ≡ addressedOf (field_of code 8) (field_of (bit_xor half cover) 16) (field_of 0 spare) number 16 }
+    ensures { result ≡ addressed_of (field_of code 8) (field_of (bit_xor half cover) 16) (field_of 0 spare) number 16 }
 {
     let sent = field(covered(half, cover), 16);
     addressed(field(code, 8), sent, field(0, spare), number, 16)
 }
 
 fn lock(mask: u16, action: u16, number: u16) -> Layout
-    ensures { result ≡ addressedOf (field_of 0xC5 8) (field_of mask 10) (field_of action 10) number 16 }
+    ensures { result ≡ addressed_of (field_of 0xC5 8) (field_of mask 10) (field_of action 10) number 16 }
 {
     let masked = field(mask as u32, 10);
     addressed(field(0xC5, 8), masked, field(action as u32, 10), number, 16)
@@ -111,7 +111,7 @@ fn pointing(
     number: u16,
 ) -> Layout
     requires { (code < 2 ^ 17) × (bits ≤ 17) }
-    ensures { result ≡ pointingOf code bits p (field_of value wide) body number }
+    ensures { result ≡ pointing_of code bits p (field_of value wide) body number }
 {
     Layout {
         front: field(code * 4 + p.bank % 4, bits + 2),
@@ -126,7 +126,7 @@ fn pointing(
 // The same with words for payload, and how many they are before them.
 fn bringing(code: u32, bits: usize, p: Place, bytes: usize, number: u16) -> Layout
     requires { (code < 2 ^ 17) × (bits ≤ 17) × (bytes < 512) }
-    ensures { result ≡ pointingOf code bits p (field_of (bytes / 2) 8) (8 * bytes) number }
+    ensures { result ≡ pointing_of code bits p (field_of (bytes / 2) 8) (8 * bytes) number }
 {
     let count = (bytes / 2) as u32;
     pointing(code, bits, p, count, 8, 8 * bytes, number)

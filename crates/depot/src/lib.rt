@@ -1,4 +1,6 @@
 // The depot's half: frames made, and replies read (RULES 12). No image and no session.
+#![tactic(auto)]
+
 ghost use Rattle.std.specs.Prelude.{◌≡◌};
 ghost use Rattle.depot.specs.Making.{sent, make_of};
 ghost use Rattle.readings.specs.Reading.{meaning};

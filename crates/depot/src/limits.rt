@@ -1,6 +1,6 @@
 // Which commands are within the limits (RULES 12.1).
 ghost use Rattle.std.specs.Prelude.{◌≡◌, ◌&&◌};
-ghost use Rattle.depot.specs.Limits.{placed as placed_of, whole_words, counted, within as withinOf, query_within, select_within};
+ghost use Rattle.depot.specs.Limits.{placed as placed_of, whole_words, counted, within as within_of, query_within, select_within};
 
 use crate::{Command, Place, Round};
 use bits::{both, either};
@@ -54,7 +54,7 @@ fn select(target: u32, action: u32, p: Place, length: u32, bytes: usize) -> bool
 
 // A command whose payload has so many bytes.
 pub fn within(command: Command, bytes: usize) -> bool
-    ensures { result ≡ withinOf command bytes }
+    ensures { result ≡ within_of command bytes }
 {
     match command {
         Command::QueryRep(session) => session < 4,

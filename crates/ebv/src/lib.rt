@@ -1,4 +1,6 @@
 // EBV-8 pointers of a frame (RULES 3.6).
+#![tactic(auto)]
+
 ghost use Rattle.std.specs.Prelude.{◌≡◌, ◌^◌, ◌<◌};
 ghost use Rattle.ebv.specs.Ebv.{meaning, pointer_at};
 

@@ -1,4 +1,6 @@
 // Bits into a lent room, one after the other, the first bit highest, and a check behind them (RULES 12.2).
+#![tactic(auto)]
+
 ghost use Rattle.std.specs.Prelude.{ℕ, ◌+◌, ◌-◌, ◌*◌, ◌/◌, ◌^◌, ◌≤◌, ◌<◌, ◌≡◌, List, [], ◌∷◌, length};
 ghost use Rattle.bits.specs.Bits.{bits_from, bits_of};
 ghost use Rattle.bits.proofs.Digits.{Bits};

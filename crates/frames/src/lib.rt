@@ -1,4 +1,6 @@
 // Frames in: from a frame's bits to what it asks for (RULES 3.5 to 3.8 and 11.1).
+#![tactic(auto)]
+
 ghost use Rattle.std.specs.Prelude.{◌≡◌, ◌+◌, ◌*◌, ◌/◌, ◌%◌, ◌^◌, ◌≤◌, ◌<◌, length};
 ghost use Rattle.bits.specs.Bits.{field_at};
 ghost use Rattle.frames.specs.Message.{meaning};

@@ -1,11 +1,13 @@
 // The image: its layout, read from the header, and the check of its header and content rules (RULES 1).
+#![tactic(auto)]
+
 ghost use Rattle.std.specs.Prelude.{◌≡◌, not, ◌^◌, ◌≤◌, ◌<◌, eqb, length};
 ghost use Rattle.bits.specs.Below.{every};
-ghost use Rattle.image.specs.Layout.{layout_of, blocks_in, pairs_in, header_good, end as end_of, within as withinOf, stands as standsOf};
+ghost use Rattle.image.specs.Layout.{layout_of, blocks_in, pairs_in, header_good, end as end_of, within as within_of, stands as stands_of};
 ghost use Rattle.image.specs.Check.{meaning, row_of, check_of};
 ghost use Rattle.image.specs.Content.{count_in};
 ghost use Rattle.image.specs.Rules.{Header, Good};
-ghost use Rattle.image.specs.Steps.{start_good, banks_good, perma_good, work_good, spare_in, words_fit, may_stand, between as betweenOf, may_take, pair_fits, content_row, ready_row};
+ghost use Rattle.image.specs.Steps.{start_good, banks_good, perma_good, work_good, spare_in, words_fit, may_stand, between as between_of, may_take, pair_fits, content_row, ready_row};
 
 // A section: its offset in the image and its count, both in words.
 #[derive(Drop)]
@@ -78,7 +80,7 @@ pub fn read_layout(image: &[u8]) -> Layout
 }
 
 fn within(least: usize, most: usize, n: usize) -> bool
-    ensures { result ≡ withinOf least most n }
+    ensures { result ≡ within_of least most n }
 {
     if n < least {
         return false;
@@ -87,7 +89,7 @@ fn within(least: usize, most: usize, n: usize) -> bool
 }
 
 fn stands(s: Section, o: usize, least: usize, most: usize) -> bool
-    ensures { result ≡ standsOf s o least most }
+    ensures { result ≡ stands_of s o least most }
 {
     if s.at as usize != o {
         return false;
@@ -250,7 +252,7 @@ fn may_stand(y: Layout, unit: u16, i: usize, v: u16) -> bool
 }
 
 fn between(from: usize, o: usize, to: usize) -> bool
-    ensures { result ≡ betweenOf from o to }
+    ensures { result ≡ between_of from o to }
 {
     if o < from {
         return false;

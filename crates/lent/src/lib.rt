@@ -1,4 +1,6 @@
 // The session lent: the caller's one record goes into each call and holds the new session afterwards (RULES 9.4).
+#![tactic(auto)]
+
 ghost use Rattle.std.specs.Prelude.{◌≡◌, []};
 ghost use Rattle.tag.specs.Power.{power_up_of};
 ghost use Rattle.tag.specs.Table.{frame_of};

@@ -1,4 +1,6 @@
 // Reads an image from standard input and writes where its sections stand (RULES 6.1).
+#![tactic(auto)]
+
 use image::{Fit, Layout, Section};
 use libc::{STDIN_FILENO, STDOUT_FILENO};
 

@@ -1,9 +1,11 @@
 // What a reply says, by the kind of reply that is awaited (RULES 12.4 and 12.5).
+#![tactic(auto)]
+
 ghost use Rattle.std.specs.Prelude.{◌≡◌, ◌&&◌, [], ◌∷◌, ◌+◌, ◌*◌, ◌≤◌, ◌<◌, eqb, length};
 ghost use Rattle.bits.specs.Bits.{field_at};
 ghost use Rattle.bits.specs.First.{first};
 ghost use Rattle.frames.specs.Frames.{checksum_right};
-ghost use Rattle.readings.specs.Reading.{meaning, number as number_of, epc as epcOf, handle as handle_of, failure as failureOf, shown as shownOf, asked as asked_of};
+ghost use Rattle.readings.specs.Reading.{meaning, number as number_of, epc as epc_of, handle as handle_of, failure as failure_of, shown as shown_of, asked as asked_of};
 ghost use Rattle.readings.specs.Steps.{is_drawn, done_rows, kind_rows, awaited_rows, saying};
 
 use bits::both;
@@ -56,7 +58,7 @@ fn number(all: usize, n: usize, bytes: &[u8]) -> Reading
 }
 
 fn epc(h: u16, n: usize, bytes: &[u8]) -> Reading
-    ensures { meaning result ≡ saying (epcOf h n bytes.now ∷ []) }
+    ensures { meaning result ≡ saying (epc_of h n bytes.now ∷ []) }
 {
     let l = bits::field(bytes, 0, 5) as usize;
     if n == 16 * (l + 2) {
@@ -89,7 +91,7 @@ fn framed(lead: u16, k: usize, h: u16, n: usize, bytes: &[u8]) -> bool
 }
 
 fn failure(h: u16, n: usize, bytes: &[u8]) -> Reading
-    ensures { meaning result ≡ saying (failureOf h n bytes.now ∷ []) }
+    ensures { meaning result ≡ saying (failure_of h n bytes.now ∷ []) }
 {
     if framed(1, 8, h, n, bytes) {
         return Reading::Error(bits::field(bytes, 1, 8) as u8);
@@ -120,7 +122,7 @@ fn asked(count: u32, n: usize) -> usize
 }
 
 fn words(count: u32, h: u16, n: usize, bytes: &[u8]) -> Reading
-    ensures { meaning result ≡ saying (shownOf h n bytes.now (asked_of h n bytes.now count) ∷ failureOf h n bytes.now ∷ []) }
+    ensures { meaning result ≡ saying (shown_of h n bytes.now (asked_of h n bytes.now count) ∷ failure_of h n bytes.now ∷ []) }
 {
     let k = asked(count, n);
     let some = both(0 < k, k < 4097);

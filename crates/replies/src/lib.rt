@@ -1,4 +1,6 @@
 // Replies out: bits into a lent room, the first bit highest (RULES 3.9 to 3.11).
+#![tactic(auto)]
+
 ghost use Rattle.std.specs.Prelude.{◌≡◌, [], ◌+◌, ◌-◌, ◌*◌, ◌/◌, ◌%◌, ◌≤◌, ◌<◌, length, replicate};
 ghost use Rattle.bits.specs.Bits.{bits_of};
 ghost use Rattle.crc.specs.Crc.{run};

@@ -1,10 +1,12 @@
 // Which words a command may read and write, and the error code that it gets where it may not (RULES 3.18 to 3.22).
+#![tactic(auto)]
+
 ghost use Rattle.std.specs.Prelude.{◌≡◌, not, ◌||◌, ◌+◌, ◌-◌, ◌*◌, ◌/◌, ◌%◌, ◌^◌, ◌≤◌, ◌<◌, eqb, ltb, length};
 ghost use Rattle.bits.specs.Bits.{bit_at};
 ghost use Rattle.bits.specs.Below.{every};
 ghost use Rattle.image.specs.Layout.{layout_of, blocks_in};
-ghost use Rattle.image.specs.Content.{permalock as permalockOf};
-ghost use Rattle.rights.specs.Rights.{fault_number, bank_of, pwd_bit, perma_bit, opens as opens_of, pair_of, block_open, may_write, read_end, span_words, beyond as beyondOf, bad_pc, read_code, write_code, locked_to, pair_breaks, some_permalock, user_open_for_good, lock_code, not_perma, perma_read_code, perma_code};
+ghost use Rattle.image.specs.Content.{permalock as permalock_of};
+ghost use Rattle.rights.specs.Rights.{fault_number, bank_of, pwd_bit, perma_bit, opens as opens_of, pair_of, block_open, may_write, read_end, span_words, beyond as beyond_of, bad_pc, read_code, write_code, locked_to, pair_breaks, some_permalock, user_open_for_good, lock_code, not_perma, perma_read_code, perma_code};
 ghost use Rattle.rights.specs.Steps.{first_locked, rest_open, entry_of};
 
 use bits::{both, either};
@@ -161,7 +163,7 @@ pub fn next_block(y: Layout, i: usize) -> usize
 // The permalock bit of block b.
 fn permalock(image: &[u8], y: Layout, b: usize) -> u16
     requires { b < 2 ^ 60 }
-    ensures { result ≡ permalockOf y image.now b }
+    ensures { result ≡ permalock_of y image.now b }
 {
     (bits::word(image, y.perma.at as usize + b / 16) >> (15 - b % 16)) % 2
 }
@@ -285,7 +287,7 @@ pub fn span_words(image: &[u8], s: Span) -> usize
 
 // A pointer at or beyond the end of the bank b, or words past it.
 fn beyond(b: Section, s: Span) -> bool
-    ensures { result ≡ beyondOf b s }
+    ensures { result ≡ beyond_of b s }
 {
     let words = b.words as usize;
     let p = s.pointer as usize;

@@ -1,7 +1,7 @@
 // What the commands of inventory ask and count: Q, slot, a mask, an action's flag (RULES 11.3 to 11.5).
 ghost use Rattle.std.specs.Prelude.{◌≡◌, ◌≤◌, ◌<◌, length};
 ghost use Rattle.image.specs.Layout.{layout_of};
-ghost use Rattle.states.specs.Inventory.{adjusted_q, counted_down, selects as selectsOf, flag_after};
+ghost use Rattle.states.specs.Inventory.{adjusted_q, counted_down, selects as selects_of, flag_after};
 ghost use Rattle.states.specs.Steps.{picked};
 
 use frames::Span;
@@ -46,7 +46,7 @@ pub fn counted_down(slot: u16) -> u16
 pub fn selects(image: &[u8], s: Span, frame: &[u8], at: usize) -> bool
     requires in_bounds { 32 ≤ length image.now }
     requires at_bound { (at ≤ 51) × (s.count < 256) }
-    ensures { result ≡ selectsOf (layout_of image.now) image.now frame.now s at }
+    ensures { result ≡ selects_of (layout_of image.now) image.now frame.now s at }
 {
     let bank = rights::bank_in(image, s.bank);
     let bits = 16 * bank.words as usize;

@@ -1,6 +1,6 @@
 // What commands leave of a session's numbers (RULES 3.12 to 3.15 and 11.2 to 11.6).
 ghost use Rattle.std.specs.Prelude.{◌≡◌};
-ghost use Rattle.states.specs.ByNumber.{bare_to, linked_to, used_in, halved_in, fallen_in, numbered_in, secured_in, killed_in, acknowledged_in, idle_in, left_in, bit_for, flag_in, inverted_in, queried_in, meant as meantOf, matches_in, slot_out, selected_by, selected_in};
+ghost use Rattle.states.specs.ByNumber.{bare_to, linked_to, used_in, halved_in, fallen_in, numbered_in, secured_in, killed_in, acknowledged_in, idle_in, left_in, bit_for, flag_in, inverted_in, queried_in, meant as meant_of, matches_in, slot_out, selected_by, selected_in};
 
 use crate::inventory::{flag_after, pick};
 use crate::stopping::past;
@@ -163,7 +163,7 @@ pub fn queried_flags(v: Numbers, session: u8) -> u8
 
 // A Query's Sel means the tag.
 fn meant(sel: u8, sl: bool) -> bool
-    ensures { result ≡ meantOf sel sl }
+    ensures { result ≡ meant_of sel sl }
 {
     if sel < 2 {
         return true;

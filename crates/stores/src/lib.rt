@@ -1,10 +1,12 @@
 // Stores under a limited power: staging, applying, and the stores of power_up (RULES 2).
+#![tactic(auto)]
+
 ghost use Rattle.std.specs.Prelude.{◌≡◌, [], ◌∷◌, ℕ, ◌+◌, ◌*◌, ◌^◌, ◌≤◌, ◌<◌, length};
 ghost use Rattle.bits.specs.Words.{word_at, store as store_of};
 ghost use Rattle.bits.specs.Bits.{field_at};
 ghost use Rattle.image.specs.Content.{length_of, pc_word};
 ghost use Rattle.image.specs.Rules.{Good};
-ghost use Rattle.stores.specs.Stores.{staged as stagedOf, finished, change_stores, epc_crc, power_stores};
+ghost use Rattle.stores.specs.Stores.{staged as staged_of, finished, change_stores, epc_crc, power_stores};
 ghost use Rattle.stores.specs.Steps.{Ran, Made, StagedTo, announced, Announced, pairs_at, chosen_at, chosen};
 
 use image::Layout;
@@ -31,7 +33,7 @@ fn spend(image: &mut [u8], left: usize, i: usize, v: u16) -> usize
 // Pair k of the work area; one test where power is left for both words.
 fn put_pair(area: &mut [u8], left: usize, k: usize, o: u16, v: u16) -> usize
     requires { (k < 256) × (2 * (3 + 2 * k) ≤ length area.old) }
-    ensures { Ran (stagedOf (1 + 2 * k) (store_of o v ∷ [])) left area.old area.new result }
+    ensures { Ran (staged_of (1 + 2 * k) (store_of o v ∷ [])) left area.old area.new result }
 {
     if left < 2 {
         return spend(area, left, 1 + 2 * k, o);

@@ -1,4 +1,6 @@
 // The tag: a session, and every operation on it and an image. Each has its answer for any input (RULES 5).
+#![tactic(auto)]
+
 ghost use Rattle.std.specs.Prelude.{◌≡◌};
 ghost use Rattle.tag.specs.Session.{number_of};
 
