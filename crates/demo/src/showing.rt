@@ -132,7 +132,7 @@ pub fn step(s: Sent, after: Session, reply: usize, room: &[u8; 8]) {
 
 // What ACK brought: the PC, the EPC, and a CRC-16 that is not shown.
 pub fn found(room: &[u8; 8]) {
-    text(b"\n_the tag is found: PC");
+    text(b"\nThe tag is found: PC");
     words(room, 0, 1);
     text(b", EPC");
     words(room, 1, 3);
