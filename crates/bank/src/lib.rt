@@ -9,7 +9,7 @@ ghost use Rattle.bank.specs.Views.{bank_number, bytes_of, shown, view_of, words_
 use image::{Fit, Section};
 
 // The banks of an image.
-#[derive(Drop)]
+#[derive(Clone, Copy)]
 pub enum Bank {
     Reserved,
     Epc,
@@ -18,7 +18,7 @@ pub enum Bank {
 }
 
 // What reading a word answers.
-#[derive(Drop)]
+#[derive(Clone, Copy)]
 pub enum Word {
     // The image is refused with this number.
     Refused(u8),
@@ -28,7 +28,7 @@ pub enum Word {
 }
 
 // One bank's part of an image; of a refused image the check's number and no byte.
-#[derive(Drop)]
+#[derive(Clone, Copy)]
 pub struct View<'a> {
     words: &'a [u8],
     answer: u8,

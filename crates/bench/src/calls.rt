@@ -7,7 +7,7 @@ use lines::{output, parts, verbs};
 use tag::{Outcome, Power, Session};
 
 // The session, the line's number, the place in what is to be written, and how many bytes the image has.
-#[derive(Drop)]
+#[derive(Clone, Copy)]
 pub struct Desk {
     pub session: Session,
     pub k: u64,

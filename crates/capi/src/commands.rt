@@ -8,7 +8,7 @@ use crate::{Frame, Reply, Request};
 use depot::{Command, Made, Place, Reading, Round};
 
 // A command, or none.
-#[derive(Drop)]
+#[derive(Clone, Copy)]
 pub enum Asked {
     Nothing,
     For(Command),

@@ -22,7 +22,7 @@ pub use states::Record;
 
 // An outcome: the answer's number, the new session, the reply's length in bits, the stores made, and the register where it was read.
 #[repr(C)]
-#[derive(Drop)]
+#[derive(Clone, Copy)]
 pub struct Told {
     pub answer: u8,
     pub session: Record,
@@ -33,7 +33,7 @@ pub struct Told {
 
 // A section: its offset in the image and its count, both in words.
 #[repr(C)]
-#[derive(Drop)]
+#[derive(Clone, Copy)]
 pub struct Place {
     pub at: u16,
     pub words: u16,
@@ -41,7 +41,7 @@ pub struct Place {
 
 // What the check answers: a number, and where it is 0 the layout.
 #[repr(C)]
-#[derive(Drop)]
+#[derive(Clone, Copy)]
 pub struct Sheet {
     pub answer: u8,
     pub block: u16,
@@ -56,7 +56,7 @@ pub struct Sheet {
 
 // A command that a depot makes or reads a reply to: its kind, and what it has of the fields (RULES 12.9).
 #[repr(C)]
-#[derive(Drop)]
+#[derive(Clone, Copy)]
 pub struct Request {
     pub kind: u32,
     pub bank: u32,
@@ -77,7 +77,7 @@ pub struct Request {
 
 // What making answers: a number, and where it is 0 the bits of the frame.
 #[repr(C)]
-#[derive(Drop)]
+#[derive(Clone, Copy)]
 pub struct Frame {
     pub answer: usize,
     pub bits: usize,
@@ -85,7 +85,7 @@ pub struct Frame {
 
 // What reading answers: a number, and where it is 0 the kind of the reply and its values.
 #[repr(C)]
-#[derive(Drop)]
+#[derive(Clone, Copy)]
 pub struct Reply {
     pub answer: usize,
     pub kind: usize,

@@ -11,28 +11,28 @@ use showing::Sum;
 use tag::Session;
 
 // How a step of finding the tag went: the session after it, or an answer that the story doesn't have.
-#[derive(Drop)]
+#[derive(Clone, Copy)]
 enum Stepped {
     To(Session),
     Failed,
 }
 
 // How a cut went: what the engine saw, or an answer that the story doesn't have.
-#[derive(Drop)]
+#[derive(Clone, Copy)]
 enum Played {
     Saw(Seen),
     Failed,
 }
 
 // How the gate's write went: the stores made, or such an answer.
-#[derive(Drop)]
+#[derive(Clone, Copy)]
 enum Written {
     Made(usize),
     Failed,
 }
 
 // How the cuts inside one store went: the sum with them, or such an answer.
-#[derive(Drop)]
+#[derive(Clone, Copy)]
 enum Summed {
     To(Sum),
     Failed,

@@ -13,7 +13,7 @@ pub const OLD: [u16; 7] = [3, 3, 6, 10, 24, 57, 0x1811];
 pub const NEW: [u16; 7] = [2, 3, 5, 12, 72, 0x1a25, 0];
 
 // Which entry some words are: one of the two whole, or neither.
-#[derive(Drop)]
+#[derive(Clone, Copy)]
 pub enum Seen {
     Old,
     New,
@@ -21,7 +21,7 @@ pub enum Seen {
 }
 
 // What a reader sends to find the tag.
-#[derive(Drop)]
+#[derive(Clone, Copy)]
 pub enum Sent {
     Query,
     QueryRep,
@@ -30,7 +30,7 @@ pub enum Sent {
 }
 
 // The two bytes of a word; the high one stands first.
-#[derive(Drop)]
+#[derive(Clone, Copy)]
 pub enum Half {
     High,
     Low,

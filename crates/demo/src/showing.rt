@@ -5,7 +5,7 @@ use libc::STDOUT_FILENO;
 use tag::{Power, Session, State};
 
 // How often the engine saw which entry.
-#[derive(Drop)]
+#[derive(Clone, Copy)]
 pub struct Sum {
     pub cuts: u64,
     pub old: u64,

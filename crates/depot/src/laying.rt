@@ -8,7 +8,7 @@ use crate::{Command, Place, Round};
 use fields::Field;
 
 // A frame: three numbers, where it has a pointer that in the middle; so many bits of the payload; a number; and the bits of the check: 0, 5 or 16.
-#[derive(Drop)]
+#[derive(Clone, Copy)]
 pub struct Layout {
     pub front: Field,
     pub middle: Field,

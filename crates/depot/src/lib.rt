@@ -14,14 +14,14 @@ mod putting;
 pub use readings::Reading;
 
 // Where words of a bank begin, or bits.
-#[derive(Drop)]
+#[derive(Clone, Copy)]
 pub struct Place {
     pub bank: u32,
     pub pointer: u32,
 }
 
 // The fields of a Query.
-#[derive(Drop)]
+#[derive(Clone, Copy)]
 pub struct Round {
     pub dr: u32,
     pub m: u32,
@@ -34,7 +34,7 @@ pub struct Round {
 
 // A command without the number that it carries and without its payload. Words and halves are uncovered. QueryRep has a session, QueryAdjust a session and UpDn, Select target,
 // action, place and length, and its mask for payload. BlockWrite's words and Permalock's masks are payload too.
-#[derive(Drop)]
+#[derive(Clone, Copy)]
 pub enum Command {
     QueryRep(u32),
     Ack,
@@ -55,7 +55,7 @@ pub enum Command {
 }
 
 // What making answers.
-#[derive(Drop)]
+#[derive(Clone, Copy)]
 pub enum Made {
     // The bits of the frame.
     Frame(usize),

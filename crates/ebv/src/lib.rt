@@ -4,7 +4,7 @@
 ghost use Rattle.std.specs.Prelude.{◌≡◌, ◌^◌, ◌<◌};
 ghost use Rattle.ebv.specs.Ebv.{meaning, pointer_at};
 
-#[derive(Drop)]
+#[derive(Clone, Copy)]
 pub enum Pointer {
     // The value, and how many bytes it took.
     Whole { value: u32, bytes: usize },

@@ -8,7 +8,7 @@ ghost use Rattle.replies.specs.Pack.{packed};
 ghost use Rattle.fields.specs.Steps.{field_bits, seal_bits, with_bit, Goes};
 
 // A number and how many of its low bits count.
-#[derive(Drop)]
+#[derive(Clone, Copy)]
 pub struct Field {
     pub value: u32,
     pub bits: usize,

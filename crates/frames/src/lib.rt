@@ -10,7 +10,7 @@ ghost use Rattle.frames.specs.Steps.{called, query_rep_frame, ack_frame, query_a
 use ebv::Pointer;
 
 // Words of a bank: the bank's number, the first word and how many. For BlockPermalock the words are PERMA's.
-#[derive(Drop)]
+#[derive(Clone, Copy)]
 pub struct Span {
     pub bank: u16,
     pub pointer: u32,
@@ -18,14 +18,14 @@ pub struct Span {
 }
 
 // An inventory round: its session, 0 to 3, and its Q, 0 to 15.
-#[derive(Drop)]
+#[derive(Clone, Copy)]
 pub struct Round {
     pub session: u8,
     pub q: u8,
 }
 
 // What a Select says: its target, its action, the bits of a bank that the mask is compared with, and its truncate bit.
-#[derive(Drop)]
+#[derive(Clone, Copy)]
 pub struct Choice {
     pub target: u8,
     pub action: u8,
@@ -35,7 +35,7 @@ pub struct Choice {
 
 // What a command asks for. Words and halves are as sent, covered. A place is the first bit of the words, or of the mask, that the frame brings. QueryRep has a session,
 // ACK its number, Query Sel, target and round, QueryAdjust a session and UpDn. The code makes the five of inventory as `Calling`.
-#[derive(Drop)]
+#[derive(Clone, Copy)]
 pub enum Order {
     QueryRep(u8),
     Ack(u16),
@@ -57,14 +57,14 @@ pub enum Order {
 
 // A command: the number that it must carry to be for a tag, and what it asks for. The five of inventory and NAK are for every tag, and have 0: an ACK's own number is
 // a part of what it asks for.
-#[derive(Drop)]
+#[derive(Clone, Copy)]
 pub struct Command {
     pub number: u16,
     pub order: Order,
 }
 
 // What a frame says.
-#[derive(Drop)]
+#[derive(Clone, Copy)]
 pub enum Heard {
     Malformed,
     Checksum,
@@ -73,7 +73,7 @@ pub enum Heard {
 
 // What a frame of inventory says: QueryRep its session, ACK its number, Query Sel, target, session and Q, QueryAdjust a session and UpDn, Select its choice and the mask's
 // first bit.
-#[derive(Drop)]
+#[derive(Clone, Copy)]
 pub enum Calling {
     Malformed,
     Checksum,

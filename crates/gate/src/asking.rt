@@ -4,7 +4,7 @@ use lines::parts::{number, word};
 use lines::{parts, verbs};
 
 // A command, the number that it carries, its cover number, which of its parts are its data (0: none), and the part after its last.
-#[derive(Drop)]
+#[derive(Clone, Copy)]
 pub struct Asked {
     pub command: Command,
     pub number: u16,
@@ -14,7 +14,7 @@ pub struct Asked {
 }
 
 // What a line is: none of the list, one that goes through, the room's size, a command, or a reply to one.
-#[derive(Drop)]
+#[derive(Clone, Copy)]
 pub enum Said {
     Bad,
     Through,

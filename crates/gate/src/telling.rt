@@ -7,7 +7,7 @@ use depot::{Made, Reading};
 use lines::{output, parts};
 
 // The line's number, how many bytes frames are made into, and the place in what is to be written.
-#[derive(Drop)]
+#[derive(Clone, Copy)]
 pub struct Desk {
     pub k: u64,
     pub room: usize,

@@ -10,14 +10,14 @@ ghost use Rattle.image.specs.Rules.{Header, Good};
 ghost use Rattle.image.specs.Steps.{start_good, banks_good, perma_good, work_good, spare_in, words_fit, may_stand, between as between_of, may_take, pair_fits, content_row, ready_row};
 
 // A section: its offset in the image and its count, both in words.
-#[derive(Drop)]
+#[derive(Clone, Copy)]
 pub struct Section {
     pub at: u16,
     pub words: u16,
 }
 
 // What the header says: the block size and the seven sections.
-#[derive(Drop)]
+#[derive(Clone, Copy)]
 pub struct Layout {
     pub block: u16,
     pub status: Section,
@@ -30,7 +30,7 @@ pub struct Layout {
 }
 
 // What the check answers.
-#[derive(Drop)]
+#[derive(Clone, Copy)]
 pub enum Fit {
     // Under 32 bytes.
     Short,

@@ -4,7 +4,7 @@ ghost use Rattle.std.specs.Prelude.{◌≤◌};
 use libc::STDIN_FILENO;
 
 // What of the chunk is not taken yet, the line's number, counted from 1, how many bytes it has (20,001: it is too long), whether it is there, and whether input is left.
-#[derive(Drop)]
+#[derive(Clone, Copy)]
 pub struct Source {
     pub at: usize,
     pub end: usize,

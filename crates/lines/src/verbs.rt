@@ -1,7 +1,7 @@
 // The first words of bench's lines.
 use crate::parts::same;
 
-#[derive(Drop)]
+#[derive(Clone, Copy)]
 pub enum Verb {
     Image,
     Check,

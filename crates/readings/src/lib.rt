@@ -11,7 +11,7 @@ ghost use Rattle.readings.specs.Steps.{is_drawn, done_rows, kind_rows, awaited_r
 use bits::both;
 
 // What reading answers.
-#[derive(Drop)]
+#[derive(Clone, Copy)]
 pub enum Reading {
     Error(u8),
     // How many, and at which bit they begin.
@@ -27,7 +27,7 @@ pub enum Reading {
 }
 
 // The replies that answer a command: a drawn number; PC and EPC; a new number; the handle; the handle, or done; done; so many words; none.
-#[derive(Drop)]
+#[derive(Clone, Copy)]
 pub enum Awaited {
     Drawn,
     Epc,

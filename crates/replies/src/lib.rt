@@ -10,7 +10,7 @@ ghost use Rattle.replies.specs.Pack.{packed};
 ghost use Rattle.replies.specs.Steps.{with_bytes, late, ended};
 
 // A reply, as the definitions name it. Words are the image's: the first, and how many.
-#[derive(Drop)]
+#[derive(Clone, Copy)]
 pub enum Reply {
     Silence,
     Number(u16),

@@ -14,7 +14,7 @@ use frames::Span;
 use image::{Layout, Section};
 
 // The standard's errors that a command can meet.
-#[derive(Drop)]
+#[derive(Clone, Copy)]
 pub enum Fault {
     Other,
     PastEnd,
@@ -22,14 +22,14 @@ pub enum Fault {
 }
 
 // An error, or none.
-#[derive(Drop)]
+#[derive(Clone, Copy)]
 pub enum Code {
     Nothing,
     Error(Fault),
 }
 
 // A word that was looked for.
-#[derive(Drop)]
+#[derive(Clone, Copy)]
 pub enum Found {
     At(usize),
     Nothing,

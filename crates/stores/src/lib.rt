@@ -12,7 +12,7 @@ ghost use Rattle.stores.specs.Steps.{Ran, Made, StagedTo, announced, Announced, 
 use image::Layout;
 
 // How far staging has come: the power left, and the pairs staged.
-#[derive(Drop)]
+#[derive(Clone, Copy)]
 pub struct Staged {
     pub left: usize,
     pub pairs: usize,

@@ -23,14 +23,14 @@ use states::Record;
 pub use states::{Cover, Flags, Half, Link, State};
 
 // The port's error register: bit 1, some word wasn't written; bit 0, killed.
-#[derive(Drop)]
+#[derive(Clone, Copy)]
 pub struct Register {
     pub unwritten: bool,
     pub killed: bool,
 }
 
 // A session under power.
-#[derive(Drop)]
+#[derive(Clone, Copy)]
 pub struct Live {
     pub held: bool,
     pub register: Register,
@@ -38,19 +38,19 @@ pub struct Live {
     pub state: State,
 }
 
-#[derive(Drop)]
+#[derive(Clone, Copy)]
 pub enum Power {
     Off,
     On(Live),
 }
 
-#[derive(Drop)]
+#[derive(Clone, Copy)]
 pub struct Session {
     pub power: Power,
 }
 
 // The answers of the table.
-#[derive(Drop)]
+#[derive(Clone, Copy)]
 pub enum Answer {
     Done,
     Short,
@@ -70,7 +70,7 @@ pub enum Answer {
 }
 
 // What an operation hands back: its answer, the new session, the reply's length in bits, the stores made, and the register where it was read.
-#[derive(Drop)]
+#[derive(Clone, Copy)]
 pub struct Outcome {
     pub answer: Answer,
     pub session: Session,
@@ -80,7 +80,7 @@ pub struct Outcome {
 }
 
 // The same of a frame, which reads no register, over the session's record.
-#[derive(Drop)]
+#[derive(Clone, Copy)]
 pub struct Noted {
     pub answer: Answer,
     pub session: Record,
