@@ -1,0 +1,31 @@
+-- `stores::power` meets its contract: the CRC is read off the image that the stores before it made. Assumes nothing.
+use Rattle.stores.specs.Stores.{settling, epc_crc, power_stores}
+use Rattle.image.specs.Content.{length_of, pc_word}
+use Rattle.bits.proofs.Stores.{length-after}
+use Rattle.bits.specs.Words.{after}
+use lib.ListN.{take}
+use Prim.Native.Nat.{◌+◌, ◌≤◌}
+use native.Mathlib.Omega.{arith}
+use Rattle.stores.proofs.Runs.{ran-made}
+use Rattle.stores.proofs.Changes.{pending-under, settling-pc, ran_then}
+use Rattle.stores.proofs.power.Goals as goal
+
+pub settle-left-requires : goal.settle-left-requires
+settle-left-requires c = let a = c.args in
+    let g = c.requires in
+    let e = c.word-c.ensures in
+    ((omega (arith, (g.content 0).count, g.header.pairs_most), omega arith, omega (arith, (g.content 0).count, g.header.whole, g.header.work.least)), λ j l. pending-under a.y a.image.now g j (rw e at l))
+
+pub epc_crc-sum-requires : goal.epc_crc-sum-requires
+epc_crc-sum-requires c = let a = c.args in
+    let g = c.requires in
+    let r = rw c.word-c.ensures at c.settle-left.ensures in
+    let h = g.header in
+    let p : length_of (pc_word a.y (after a.image.now (take a.s (settling a.y a.image.now)))) + 2 ≤ a.y.epc.words = settling-pc a.y a.image.now g a.s in
+    rw r.image (rw (length-after) (omega arith))
+
+pub returns : goal.returns
+unfolding power_stores
+returns c = let a = c.args in
+    let r = rw c.word-c.ensures at c.settle-left.ensures in
+    ran-made (ran_then (settling a.y a.image.now) a.y.epc.at (epc_crc a.y) _ r (rw c.epc_crc-sum.ensures at c.spend-rest.ensures))
