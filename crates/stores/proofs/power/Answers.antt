@@ -14,7 +14,10 @@ pub settle-left-requires : goal.settle-left-requires
 settle-left-requires c = let a = c.args in
     let g = c.requires in
     let e = c.word-c.ensures in
-    ((omega (arith, (g.content 0).count, g.header.pairs_most), omega arith, omega (arith, (g.content 0).count, g.header.whole, g.header.work.least)), λ j l. pending-under a.y a.image.now g j (rw e at l))
+    record {
+      n_bound = (omega (arith, (g.content 0).count, g.header.pairs_most), omega arith, omega (arith, (g.content 0).count, g.header.whole, g.header.work.least));
+      by_index = λ j l. pending-under a.y a.image.now g j (rw e at l);
+    }
 
 pub epc_crc-sum-requires : goal.epc_crc-sum-requires
 epc_crc-sum-requires c = let a = c.args in
