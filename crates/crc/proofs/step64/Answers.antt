@@ -2,20 +2,15 @@
 use Prim.Native.Nat.{ℕ, ◌*◌, ◌%◌, ◌^◌}
 use mathlib.Core.Path.{sym, ap, ◌∙◌}
 use native.Mathlib.Omega.{arith}
-use borrow.Author.Rules.{rules}
 use lib.Bits.{bit_xor}
 use Rattle.bits.specs.Bits.{bits_of}
 use Rattle.crc.specs.Crc.{run}
 use Rattle.crc.proofs.Tails.{at_once}
-use Rattle.crc.proofs.step64.Statement.{statement}
-use Rattle.crc.proofs.step64.Tie as tie
+use Rattle.crc.proofs.step64.Goals as goal
 
-returns : tie.Need-returns
+pub returns : goal.returns
 returns c =
-    let a = c.before.before.args in
+    let a = c.args in
     c.rest.ensures
-    ∙ ap (λ (x : ℕ). run 0 (bits_of 64 (bit_xor (x * 2 ^ 48 % 2 ^ 64) a.w))) c.before.wider.ensures.0
+    ∙ ap (λ (x : ℕ). run 0 (bits_of 64 (bit_xor (x * 2 ^ 48 % 2 ^ 64) a.w))) c.wider.ensures.0
     ∙ sym (at_once 64 a.r a.w (omega arith) (omega arith) (omega arith) (omega arith))
-
-pub step64-spec : {M : Type 1} → statement M
-step64-spec = tie.close (tie.spec (λ c κs. search rules) (λ c κs. search rules) returns)

@@ -8,8 +8,7 @@ use Rattle.bits.specs.Bits.{bits_of}
 use Rattle.bits.specs.Below.{every}
 use Rattle.crc.proofs.Linear.{of16}
 use Rattle.crc.proofs.Steps.{Linear, both, then, same, right, left, cut, shifts, test, steps}
-use Rattle.crc.proofs.step16.Statement.{statement}
-use Rattle.crc.proofs.step16.Tie as tie
+use Rattle.crc.proofs.step16.Goals as goal
 
 -- the code, of the register and the word's sum
 quotient : ℕ → ℕ
@@ -28,9 +27,6 @@ tested : every (test of16 16 code) 32 ≡ true
 unfolding code quotient shifts test bits_of
 tested = refl
 
-returns : tie.Need-returns
+pub returns : goal.returns
 unfolding code quotient
 returns c = sym (steps of16 16 code linear tested c.args.r c.args.w (omega arith) (omega arith))
-
-pub step16-spec : {M : Type 1} → statement M
-step16-spec = tie.close (tie.spec returns)

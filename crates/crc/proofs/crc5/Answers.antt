@@ -3,7 +3,6 @@ use Prim.Native.Nat.{ℕ, ◌*◌, ◌/◌, ◌%◌, ◌^◌, ◌<◌}
 use mathlib.Core.Path.{◌≡◌, refl, sym, ap, ◌∙◌}
 use mathlib.Core.Bool.{true}
 use native.Mathlib.Omega.{arith}
-use borrow.Author.Rules.{rules}
 use lib.Bits.{bit_xor}
 use lib.ListN.{get_or}
 use Rattle.bits.specs.Bits.{bits_of, field_at}
@@ -13,8 +12,7 @@ use Rattle.bits.proofs.Windows.{through-window}
 use Rattle.crc.specs.Crc5.{run5, crc5_of}
 use Rattle.crc.proofs.Linear.{of5}
 use Rattle.crc.proofs.Steps.{Linear, both, then, same, right, up, left, cut, shifts, test, steps}
-use Rattle.crc.proofs.crc5.Statement.{statement}
-use Rattle.crc.proofs.crc5.Tie as tie
+use Rattle.crc.proofs.crc5.Goals as goal
 
 -- x, and x shifted right by each of two numbers
 twice : ℕ → ℕ → ℕ → ℕ
@@ -40,18 +38,13 @@ tested : every (test of5 17 code) 22 ≡ true
 unfolding code quotient twice shifts test bits_of
 tested = refl
 
-returns : tie.Need-returns
+pub returns : goal.returns
 unfolding code quotient twice crc5_of
 returns c =
-    let m = c.before.before.before.args.bytes.now in
-    let bytes : (j : ℕ) → get_or m j 0 < 256 = λ j. omega (arith, c.before.before.shared-slice-known.given j) in
-    let u : c.from-window.result ≡ field_at m 0 17 =
-    c.from-window.ensures.0 ∙ ap (λ (x : ℕ). x / 2 ^ 7 % 2 ^ 17) c.before.window.ensures ∙ sym (through-window m 0 0 17 7 bytes refl (omega arith)) in
+    let m = c.args.bytes.now in
+    let bytes : (j : ℕ) → get_or m j 0 < 256 = λ j. omega (arith, c.type_inv.bytes j) in
+    let u : c.from_window-u.result ≡ field_at m 0 17 =
+    c.from_window-u.ensures.0 ∙ ap (λ (x : ℕ). x / 2 ^ 7 % 2 ^ 17) c.window.ensures ∙ sym (through-window m 0 0 17 7 bytes refl (omega arith)) in
     ap (code 9) u
     ∙ sym (steps of5 17 code linear tested 9 (field_at m 0 17) (omega arith) (field_lt m 0 17))
     ∙ ap (run5 9) (field-bits m 0 17)
-
-pub crc5-spec : {M : Type 1} → statement M
-crc5-spec =
-    tie.close
-    (tie.spec (search rules) (search rules) (search rules) returns)

@@ -2,15 +2,13 @@
 use Prim.Native.Nat.{ℕ, ◌*◌, ◌/◌, ◌%◌, ◌^◌}
 use mathlib.Core.Path.{◌≡◌, refl, sym}
 use native.Mathlib.Omega.{arith}
-use borrow.Author.Rules.{rules}
 use mathlib.Core.Bool.{true}
 use lib.Bits.{bit_xor}
 use Rattle.bits.specs.Bits.{bits_of}
 use Rattle.bits.specs.Below.{every}
 use Rattle.crc.proofs.Linear.{of16}
 use Rattle.crc.proofs.Steps.{Linear, both, then, same, right, left, cut, alone, from_zero}
-use Rattle.crc.proofs.rest.Statement.{statement}
-use Rattle.crc.proofs.rest.Tie as tie
+use Rattle.crc.proofs.rest.Goals as goal
 
 -- x, and x shifted right by each of some numbers
 thrice : ℕ → ℕ → ℕ → ℕ → ℕ
@@ -41,10 +39,6 @@ tested : every (alone of16 64 code) 64 ≡ true
 unfolding code quotient thrice alone bits_of
 tested = refl
 
-returns : tie.Need-returns
+pub returns : goal.returns
 unfolding code quotient thrice
 returns c = sym (from_zero of16 64 code linear tested c.args.x (omega arith))
-
-pub rest-spec : {M : Type 1} → statement M
-rest-spec = tie.close
-    (tie.spec (search rules) returns)

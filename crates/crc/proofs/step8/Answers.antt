@@ -9,8 +9,7 @@ use Rattle.bits.specs.Bits.{bits_of}
 use Rattle.bits.specs.Below.{every}
 use Rattle.crc.proofs.Linear.{of16}
 use Rattle.crc.proofs.Steps.{Linear, both, then, same, right, left, cut, shifts, test, steps}
-use Rattle.crc.proofs.step8.Statement.{statement}
-use Rattle.crc.proofs.step8.Tie as tie
+use Rattle.crc.proofs.step8.Goals as goal
 
 tail : ℕ → ℕ
 tail x = bit_xor x (x / 2 ^ 4)
@@ -24,17 +23,14 @@ linear =
     let t = then (both (then (right 8) (right 8)) (cut 8)) (both same (right 4)) in
     both (both (both (then (right 8) (left 16 8)) (then t (left 16 12))) (then t (left 16 5))) t
 
-wide-requires : tie.Need-wide-requires
-wide-requires c κs = search rules
+pub wide-requires : goal.wide-requires
+wide-requires c = search rules
 
 tested : every (test of16 8 code) 24 ≡ true
 unfolding code tail shifts test bits_of
 tested = refl
 
-returns : tie.Need-returns
+pub returns : goal.returns
 unfolding code tail
 returns c =
-    ap (code c.before.args.r) c.wide.ensures.0 ∙ sym (steps of16 8 code linear tested c.before.args.r c.before.args.b (omega arith) (omega arith))
-
-pub step8-spec : {M : Type 1} → statement M
-step8-spec = tie.close (tie.spec wide-requires returns)
+    ap (code c.args.r) c.wide.ensures.0 ∙ sym (steps of16 8 code linear tested c.args.r c.args.b (omega arith) (omega arith))
