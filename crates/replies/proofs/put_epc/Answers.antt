@@ -7,4 +7,4 @@ pub returns : goal.returns
 returns c =
     let a = c.args in
     rw (c.store_two.ensures, c.from_word.ensures.0, c.crc16_words-sum.ensures)
-    (summed a.image.now a.from a.count a.room-1.now (omega arith) c.put_few.ensures)
+    (summed a.image.now a.from a.count a.room.now (omega arith) c.put_few.ensures)

