@@ -4,6 +4,7 @@ ghost use Rattle.std.specs.Prelude.{◌≤◌, length};
 use crate::writing;
 use lines::verbs::Verb;
 use lines::{output, parts, verbs};
+use std::io;
 use tag::{Outcome, Power, Session};
 
 // The session, the line's number, the place in what is to be written, and how many bytes the image has.
@@ -32,8 +33,8 @@ fn moved(d: Desk, at: usize) -> Desk {
     q
 }
 
-fn bad(d: Desk, out: &mut [u8; 65536]) -> Desk {
-    moved(d, output::bad_line(out, d.at, d.k))
+fn bad(rt: &impl Print, d: Desk, out: &mut [u8; 65536]) -> io::Result<Desk> {
+    Ok(moved(d, output::bad_line(rt, out, d.at, d.k)?))
 }
 
 // How many bytes of the array are the image.
@@ -128,93 +129,135 @@ fn outcome(v: Verb, session: Session, line: &[u8], image: &mut [u8], room: &mut 
 }
 
 // A call's line.
-fn put(out: &mut [u8; 65536], at: usize, v: Verb, o: Outcome, room: &[u8]) -> usize {
+fn put(
+    rt: &impl Print,
+    out: &mut [u8; 65536],
+    at: usize,
+    v: Verb,
+    o: Outcome,
+    room: &[u8],
+) -> io::Result<usize> {
     if let Verb::Register = v {
-        return writing::put_reading(out, at, o);
+        return writing::put_reading(rt, out, at, o);
     }
-    writing::put_outcome(out, at, o, room)
+    writing::put_outcome(rt, out, at, o, room)
 }
 
 // A call's outcome and the w bytes of its room; its session is the session now.
-fn told(d: Desk, v: Verb, o: Outcome, room: &[u8; 9604], w: usize, out: &mut [u8; 65536]) -> Desk {
+fn told(
+    rt: &impl Print,
+    d: Desk,
+    v: Verb,
+    o: Outcome,
+    room: &[u8; 9604],
+    w: usize,
+    out: &mut [u8; 65536],
+) -> io::Result<Desk> {
     let session = o.session;
-    let at = put(out, d.at, v, o, parts::first(room, w));
-    Desk {
+    let at = put(rt, out, d.at, v, o, parts::first(room, w))?;
+    Ok(Desk {
         session: session,
         k: d.k,
         at: at,
         length: d.length,
-    }
+    })
 }
 
 // A call of the tag, with a room in which every byte is aah.
-fn call(d: Desk, v: Verb, line: &[u8], image: &mut [u8], out: &mut [u8; 65536]) -> Desk {
+fn call(
+    rt: &impl Print,
+    d: Desk,
+    v: Verb,
+    line: &[u8],
+    image: &mut [u8],
+    out: &mut [u8; 65536],
+) -> io::Result<Desk> {
     let mut room = [0xaau8; 9604];
     let w = room_of(v, line);
     let session = d.session;
     let o = outcome(v, session, line, image, &mut room[0..w]);
-    told(d, v, o, &room, w, out)
+    told(rt, d, v, o, &room, w, out)
 }
 
-fn check_line(d: Desk, image: &[u8], out: &mut [u8; 65536]) -> Desk {
-    let q = writing::put_answer(out, d.at, image::number(image::check(image)));
-    moved(d, output::byte(out, q, b'\n'))
+fn check_line(rt: &impl Print, d: Desk, image: &[u8], out: &mut [u8; 65536]) -> io::Result<Desk> {
+    let q = writing::put_answer(rt, out, d.at, image::number(image::check(image)))?;
+    Ok(moved(d, output::byte(rt, out, q, b'\n')?))
 }
 
-fn dump_line(d: Desk, image: &[u8], out: &mut [u8; 65536]) -> Desk {
-    let q = output::text(out, d.at, b"image ");
-    let q2 = output::hex(out, q, image);
-    moved(d, output::byte(out, q2, b'\n'))
+fn dump_line(rt: &impl Print, d: Desk, image: &[u8], out: &mut [u8; 65536]) -> io::Result<Desk> {
+    let q = output::text(rt, out, d.at, b"image ")?;
+    let q2 = output::hex(rt, out, q, image)?;
+    Ok(moved(d, output::byte(rt, out, q2, b'\n')?))
 }
 
 // Every line but `image`.
-fn answered(d: Desk, v: Verb, line: &[u8], image: &mut [u8], out: &mut [u8; 65536]) -> Desk {
+fn answered(
+    rt: &impl Print,
+    d: Desk,
+    v: Verb,
+    line: &[u8],
+    image: &mut [u8],
+    out: &mut [u8; 65536],
+) -> io::Result<Desk> {
     match v {
-        Verb::Check => check_line(d, image, out),
-        Verb::Dump => dump_line(d, image, out),
-        Verb::Unknown => bad(d, out),
-        _ => call(d, v, line, image, out),
+        Verb::Check => check_line(rt, d, image, out),
+        Verb::Dump => dump_line(rt, d, image, out),
+        Verb::Unknown => bad(rt, d, out),
+        _ => call(rt, d, v, line, image, out),
     }
 }
 
 // The line's bytes become the image.
-fn image_line(d: Desk, line: &[u8], image: &mut [u8], out: &mut [u8; 65536]) -> Desk {
+fn image_line(
+    rt: &impl Print,
+    d: Desk,
+    line: &[u8],
+    image: &mut [u8],
+    out: &mut [u8; 65536],
+) -> io::Result<Desk> {
     let n = parts::bytes(parts::part(line, 1), image);
-    let q = output::labelled(out, d.at, b"image ", n as u64);
-    let mut e = moved(d, output::byte(out, q, b'\n'));
+    let q = output::labelled(rt, out, d.at, b"image ", n as u64)?;
+    let mut e = moved(d, output::byte(rt, out, q, b'\n')?);
     e.length = n;
-    e
+    Ok(e)
 }
 
 // A line that has bytes and is no comment.
-fn said(d: Desk, line: &[u8], image: &mut [u8], out: &mut [u8; 65536]) -> Desk {
+fn said(
+    rt: &impl Print,
+    d: Desk,
+    line: &[u8],
+    image: &mut [u8],
+    out: &mut [u8; 65536],
+) -> io::Result<Desk> {
     let v = asked(line);
     if let Verb::Image = v {
-        return image_line(d, line, image, out);
+        return image_line(rt, d, line, image, out);
     }
     let n = held(d, image);
-    answered(d, v, line, &mut image[0..n], out)
+    answered(rt, d, v, line, &mut image[0..n], out)
 }
 
 // The first n bytes are line k; more than there are is a line too long.
 pub fn line(
+    rt: &impl Print,
     d: Desk,
     bytes: &[u8; 20000],
     k: u64,
     n: usize,
     image: &mut [u8; 9604],
     out: &mut [u8; 65536],
-) -> Desk {
+) -> io::Result<Desk> {
     let mut q = d;
     q.k = k;
     if n > 20000 {
-        return bad(q, out);
+        return bad(rt, q, out);
     }
     if n == 0 {
-        return q;
+        return Ok(q);
     }
     if bytes[0] == b'#' {
-        return q;
+        return Ok(q);
     }
-    said(q, parts::first(bytes, n), image, out)
+    said(rt, q, parts::first(bytes, n), image, out)
 }

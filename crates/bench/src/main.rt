@@ -5,22 +5,29 @@ mod calls;
 mod writing;
 
 use lines::{input, output};
+use std::io;
 
-fn main() {
+// What is answered before a read fails is written all the same.
+fn main(rt: HostRuntime) -> io::Result<()> {
+    let mut reader = rt.reader();
     let mut chunk = [0u8; 65536];
     let mut line = [0u8; 20000];
     let mut image = [0u8; 9604];
     let mut out = [0u8; 65536];
     let mut s = input::begin();
     let mut d = calls::begin();
-    let mut turns = u64::MAX;
-    while turns > 0 {
-        s = input::next(s, &mut chunk, &mut line);
+    for _ in 0..u64::MAX {
+        s = match input::next(&mut reader, s, &mut chunk, &mut line) {
+            Ok(next) => next,
+            Err(e) => {
+                output::flush(&rt, &out, d.at)?;
+                return Err(e);
+            }
+        };
         if !s.whole {
             break;
         }
-        d = calls::line(d, &line, s.k, s.n, &mut image, &mut out);
-        turns -= 1;
+        d = calls::line(&rt, d, &line, s.k, s.n, &mut image, &mut out)?;
     }
-    output::flush(&out, d.at);
+    output::flush(&rt, &out, d.at)
 }

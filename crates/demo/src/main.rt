@@ -8,6 +8,7 @@ mod showing;
 
 use playing::{Half, Seen};
 use showing::Sum;
+use std::io;
 use tag::Session;
 
 // How a step of finding the tag went: the session after it, or an answer that the story doesn't have.
@@ -39,46 +40,50 @@ enum Summed {
 }
 
 // Step i of finding the tag, with its line.
-fn step(i: usize, session: Session, image: &mut [u8; 156], room: &mut [u8; 8]) -> Stepped {
+fn step(
+    rt: &impl Print,
+    i: usize,
+    session: Session,
+    image: &mut [u8; 156],
+    room: &mut [u8; 8],
+) -> io::Result<Stepped> {
     let o = playing::step(i, session, image, room);
     let answer = o.answer;
     if tag::number(answer) != 0 {
-        showing::lost(playing::sent_at(i), tag::number(answer));
-        return Stepped::Failed;
+        showing::lost(rt, playing::sent_at(i), tag::number(answer))?;
+        return Ok(Stepped::Failed);
     }
     let after = o.session;
-    showing::step(playing::sent_at(i), after, o.reply, room);
-    Stepped::To(after)
+    showing::step(rt, playing::sent_at(i), after, o.reply, room)?;
+    Ok(Stepped::To(after))
 }
 
 // The steps to ACK, whose reply is in the room then.
-fn acknowledged(image: &mut [u8; 156], room: &mut [u8; 8]) -> Stepped {
+fn acknowledged(rt: &impl Print, image: &mut [u8; 156], room: &mut [u8; 8]) -> io::Result<Stepped> {
     let mut session = playing::powered(image);
-    let mut i = 0;
-    while i < 5 {
-        let Stepped::To(after) = step(i, session, image, room) else {
-            return Stepped::Failed;
+    for i in 0..5 {
+        let Stepped::To(after) = step(rt, i, session, image, room)? else {
+            return Ok(Stepped::Failed);
         };
         session = after;
-        i += 1;
     }
-    Stepped::To(session)
+    Ok(Stepped::To(session))
 }
 
 // Finds the tag of the worked image: whether every step was answered 0.
-fn found() -> bool {
+fn found(rt: &impl Print) -> io::Result<bool> {
     let mut image = [0u8; 156];
     playing::lay(&mut image);
     let mut told = [0u8; 8];
-    let Stepped::To(session) = acknowledged(&mut image, &mut told) else {
-        return false;
+    let Stepped::To(session) = acknowledged(rt, &mut image, &mut told)? else {
+        return Ok(false);
     };
     let mut room = [0u8; 8];
-    let Stepped::To(_) = step(5, session, &mut image, &mut room) else {
-        return false;
+    let Stepped::To(_) = step(rt, 5, session, &mut image, &mut room)? else {
+        return Ok(false);
     };
-    showing::found(&told);
-    true
+    showing::found(rt, &told)?;
+    Ok(true)
 }
 
 // The number that a write of 23 stores is answered with power for k of them.
@@ -87,113 +92,115 @@ fn expected(k: usize) -> u8 {
 }
 
 // The gate's write on the worked image, with power for k stores.
-fn gate(k: usize, image: &mut [u8; 156]) -> Written {
+fn gate(rt: &impl Print, k: usize, image: &mut [u8; 156]) -> io::Result<Written> {
     playing::lay(image);
     let written = playing::write(image, k);
     let answer = written.answer;
     if tag::number(answer) != expected(k) {
-        showing::failure(k, b"the gate's BlockWrite", tag::number(answer));
-        return Written::Failed;
+        showing::failure(rt, k, "the gate's BlockWrite", tag::number(answer))?;
+        return Ok(Written::Failed);
     }
-    Written::Made(written.stores)
+    Ok(Written::Made(written.stores))
 }
 
 // The reader powers up, and the engine's words end the line, if there is one.
-fn after_cut(k: usize, image: &mut [u8; 156], shown: bool) -> Played {
+fn after_cut(rt: &impl Print, k: usize, image: &mut [u8; 156], shown: bool) -> io::Result<Played> {
     let mut room = [0u8; 14];
     let read = playing::read(image, &mut room);
     let answer = read.answer;
     if tag::number(answer) != 0 {
-        showing::failure(k, b"the engine's read", tag::number(answer));
-        return Played::Failed;
+        showing::failure(rt, k, "the engine's read", tag::number(answer))?;
+        return Ok(Played::Failed);
     }
     let words = playing::entry(&room);
     let seen = playing::judged(&words);
     if shown {
-        showing::engine(&words, seen);
+        showing::engine(rt, &words, seen)?;
     }
-    Played::Saw(seen)
+    Ok(Played::Saw(seen))
 }
 
 // The cut after k stores.
-fn between(k: usize) -> Played {
+fn between(rt: &impl Print, k: usize) -> io::Result<Played> {
     let mut image = [0u8; 156];
-    let Written::Made(stores) = gate(k, &mut image) else {
-        return Played::Failed;
+    let Written::Made(stores) = gate(rt, k, &mut image)? else {
+        return Ok(Played::Failed);
     };
-    showing::cut(k, stores);
-    showing::bank(playing::pending(&image), playing::bank(&image));
-    after_cut(k, &mut image, true)
+    showing::cut(rt, k, stores)?;
+    showing::bank(rt, playing::pending(&image), playing::bank(&image))?;
+    after_cut(rt, k, &mut image, true)
 }
 
 // The cut after k stores and one byte of the next.
-fn inside(k: usize, half: Half, shown: bool) -> Played
+fn inside(rt: &impl Print, k: usize, half: Half, shown: bool) -> io::Result<Played>
     requires { k < 23 }
 {
     let mut image = [0u8; 156];
-    let Written::Made(_) = gate(k, &mut image) else {
-        return Played::Failed;
+    let Written::Made(_) = gate(rt, k, &mut image)? else {
+        return Ok(Played::Failed);
     };
     let mut further = [0u8; 156];
-    let Written::Made(_) = gate(k + 1, &mut further) else {
-        return Played::Failed;
+    let Written::Made(_) = gate(rt, k + 1, &mut further)? else {
+        return Ok(Played::Failed);
     };
     playing::tear(&mut image, &further, k, half);
     if shown {
-        showing::torn(k + 1, half, playing::torn(&image, k));
-        showing::bank(playing::pending(&image), playing::bank(&image));
+        showing::torn(rt, k + 1, half, playing::torn(&image, k))?;
+        showing::bank(rt, playing::pending(&image), playing::bank(&image))?;
     }
-    after_cut(k, &mut image, shown)
+    after_cut(rt, k, &mut image, shown)
 }
 
 // The cut after the low byte alone has a line where the engine sees another entry than after the high byte alone.
-fn low_alone(k: usize, high: Seen) -> Played
+fn low_alone(rt: &impl Print, k: usize, high: Seen) -> io::Result<Played>
     requires { k < 23 }
 {
-    let Played::Saw(low) = inside(k, Half::Low, false) else {
-        return Played::Failed;
+    let Played::Saw(low) = inside(rt, k, Half::Low, false)? else {
+        return Ok(Played::Failed);
     };
     if playing::differ(low, high) {
-        return inside(k, Half::Low, true);
+        return inside(rt, k, Half::Low, true);
     }
-    Played::Saw(low)
+    Ok(Played::Saw(low))
 }
 
 // Both cuts inside store k + 1, and the sum with them.
-fn torn(k: usize, sum: Sum) -> Summed
+fn torn(rt: &impl Print, k: usize, sum: Sum) -> io::Result<Summed>
     requires { k < 23 }
 {
-    let Played::Saw(high) = inside(k, Half::High, true) else {
-        return Summed::Failed;
+    let Played::Saw(high) = inside(rt, k, Half::High, true)? else {
+        return Ok(Summed::Failed);
     };
-    let Played::Saw(low) = low_alone(k, high) else {
-        return Summed::Failed;
+    let Played::Saw(low) = low_alone(rt, k, high)? else {
+        return Ok(Summed::Failed);
     };
-    Summed::To(showing::counted(showing::counted(sum, high), low))
+    Ok(Summed::To(showing::counted(showing::counted(sum, high), low)))
 }
 
 // The sums stand only under cuts that all went as told.
-fn main() {
-    showing::finding();
-    if !found() {
-        return;
+fn play(rt: &impl Print) -> io::Result<()> {
+    showing::finding(rt)?;
+    if !found(rt)? {
+        return Ok(());
     }
-    showing::heading();
+    showing::heading(rt)?;
     let mut stores = showing::begin();
     let mut bytes = showing::begin();
-    let mut k = 0;
-    while k < 24 {
-        let Played::Saw(seen) = between(k) else {
-            return;
+    for k in 0..24 {
+        let Played::Saw(seen) = between(rt, k)? else {
+            return Ok(());
         };
         stores = showing::counted(stores, seen);
         if k < 23 {
-            let Summed::To(sum) = torn(k, bytes) else {
-                return;
+            let Summed::To(sum) = torn(rt, k, bytes)? else {
+                return Ok(());
             };
             bytes = sum;
         }
-        k += 1;
     }
-    showing::totals(stores, bytes);
+    showing::totals(rt, stores, bytes)
+}
+
+fn main(rt: HostRuntime) -> io::Result<()> {
+    play(&rt)
 }

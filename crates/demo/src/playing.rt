@@ -39,10 +39,8 @@ pub enum Half {
 fn put(image: &mut [u8; 156], at: usize, words: &[u16])
     requires { at + length words.now < 65536 }
 {
-    let mut i = 0;
-    while i < words.len() {
+    for i in 0..words.len() {
         bits::store_word(image, at + i, words[i]);
-        i += 1;
     }
 }
 
@@ -65,21 +63,17 @@ fn taken(bytes: &[u8], at: usize) -> [u16; 7]
     requires { at < 65536 }
 {
     let mut words = [0u16; 7];
-    let mut i = 0;
-    while i < 7 {
+    for i in 0..7 {
         words[i] = bits::word(bytes, at + i);
-        i += 1;
     }
     words
 }
 
 fn same(a: &[u16; 7], b: &[u16; 7]) -> bool {
-    let mut i = 0;
-    while i < 7 {
+    for i in 0..7 {
         if a[i] != b[i] {
             return false;
         }
-        i += 1;
     }
     true
 }
@@ -177,12 +171,10 @@ pub fn step(i: usize, session: Session, image: &mut [u8; 156], room: &mut [u8; 8
 fn found(image: &mut [u8; 156]) -> Session {
     let mut room = [0u8; 8];
     let mut session = powered(image);
-    let mut i = 0;
-    while i < 6 {
+    for i in 0..6 {
         let o = step(i, session, image, &mut room);
         let after = o.session;
         session = after;
-        i += 1;
     }
     session
 }

@@ -1,7 +1,7 @@
 // What is written; each text is as wide as its column.
 use crate::playing;
 use crate::playing::{Half, Seen, Sent};
-use libc::STDOUT_FILENO;
+use std::io;
 use tag::{Power, Session, State};
 
 // How often the engine saw which entry.
@@ -13,255 +13,263 @@ pub struct Sum {
     pub mixed: u64,
 }
 
-fn text(words: &[u8]) {
-    io::write_all(STDOUT_FILENO, words);
+fn text(rt: &impl Print, words: &str) -> io::Result<()> {
+    rt.print(words)
 }
 
-fn number(n: u64) {
-    io::print_decimal(STDOUT_FILENO, n);
+fn number(rt: &impl Print, n: u64) -> io::Result<()> {
+    rt.print(n)
 }
 
 // A number in two columns.
-fn two(n: usize) {
+fn two(rt: &impl Print, n: usize) -> io::Result<()> {
     if n < 10 {
-        text(b" ");
+        text(rt, " ")?;
     }
-    number(n as u64);
+    number(rt, n as u64)
 }
 
 // A word in hex after a space.
-fn word(w: u16) {
-    text(b" ");
-    io::print_hex(STDOUT_FILENO, w as u64, 4);
+fn word(rt: &impl Print, w: u16) -> io::Result<()> {
+    print!(rt; " {w:04x}")
 }
 
-fn entry(words: &[u16; 7]) {
-    let mut i = 0;
-    while i < 7 {
-        word(words[i]);
-        i += 1;
+fn entry(rt: &impl Print, words: &[u16; 7]) -> io::Result<()> {
+    for i in 0..7 {
+        word(rt, words[i])?;
     }
+    Ok(())
 }
 
 // How the tag is found, before the first step.
-pub fn finding() {
+pub fn finding(rt: &impl Print) -> io::Result<()> {
     text(
-        b"A bench reader looks for the tag: a Query with Q = 2, then QueryReps until the tag replies. The tag\n",
-    );
+        rt,
+        "A bench reader looks for the tag: a Query with Q = 2, then QueryReps until the tag replies. The tag\n",
+    )?;
     text(
-        b"takes its slot from the low two bits of a random word, counts it down at each QueryRep, and replies\n",
-    );
+        rt,
+        "takes its slot from the low two bits of a random word, counts it down at each QueryRep, and replies\n",
+    )?;
     text(
-        b"with a random word when it comes to 0. ACK brings the PC, the EPC and their CRC-16, Req_RN a handle.\n",
-    );
-    text(b"\nsent          state         slot  the tag replies\n");
+        rt,
+        "with a random word when it comes to 0. ACK brings the PC, the EPC and their CRC-16, Req_RN a handle.\n",
+    )?;
+    text(rt, "\nsent          state         slot  the tag replies\n")
 }
 
-fn sent(s: Sent) {
+fn sent(rt: &impl Print, s: Sent) -> io::Result<()> {
     match s {
-        Sent::Query => text(b"Query, Q = 2  "),
-        Sent::QueryRep => text(b"QueryRep      "),
-        Sent::Ack => text(b"ACK           "),
-        Sent::ReqRn => text(b"Req_RN        "),
+        Sent::Query => text(rt, "Query, Q = 2  "),
+        Sent::QueryRep => text(rt, "QueryRep      "),
+        Sent::Ack => text(rt, "ACK           "),
+        Sent::ReqRn => text(rt, "Req_RN        "),
     }
 }
 
 // A slot in its column.
-fn slot(n: u16) {
+fn slot(rt: &impl Print, n: u16) -> io::Result<()> {
     if n < 10 {
-        text(b" ");
+        text(rt, " ")?;
     }
     if n < 100 {
-        text(b" ");
+        text(rt, " ")?;
     }
     if n < 1000 {
-        text(b" ");
+        text(rt, " ")?;
     }
-    number(n as u64);
+    number(rt, n as u64)
 }
 
 // A state's name, and its slot where it has one.
-fn state(s: State) {
+fn state(rt: &impl Print, s: State) -> io::Result<()> {
     match s {
-        State::Ready => text(b"ready            -"),
+        State::Ready => text(rt, "ready            -"),
         State::Arbitrate(_, n) => {
-            text(b"arbitrate     ");
-            slot(n);
+            text(rt, "arbitrate     ")?;
+            slot(rt, n)
         }
-        State::Reply(_, _) => text(b"reply            -"),
-        State::Acknowledged(_, _) => text(b"acknowledged     -"),
-        State::Open(_) => text(b"open             -"),
-        State::Secured(_) => text(b"secured          -"),
-        State::Killed => text(b"killed           -"),
+        State::Reply(_, _) => text(rt, "reply            -"),
+        State::Acknowledged(_, _) => text(rt, "acknowledged     -"),
+        State::Open(_) => text(rt, "open             -"),
+        State::Secured(_) => text(rt, "secured          -"),
+        State::Killed => text(rt, "killed           -"),
     }
 }
 
-fn session(s: Session) {
+fn session(rt: &impl Print, s: Session) -> io::Result<()> {
     let power = s.power;
     match power {
-        Power::Off => text(b"off              -"),
+        Power::Off => text(rt, "off              -"),
         Power::On(l) => {
             let now = l.state;
-            state(now);
+            state(rt, now)
         }
     }
 }
 
 // The words of a room from one to before another, each after a space.
-fn words(room: &[u8; 8], from: usize, end: usize) {
-    let mut i = from;
-    while i < end {
+fn words(rt: &impl Print, room: &[u8; 8], from: usize, end: usize) -> io::Result<()> {
+    for i in from..end {
         if i < 4 {
-            word(bits::word(room, i));
+            word(rt, bits::word(room, i))?;
         }
-        i += 1;
     }
+    Ok(())
 }
 
 // A step of finding the tag: what was sent, the session, and the words of the reply.
-pub fn step(s: Sent, after: Session, reply: usize, room: &[u8; 8]) {
-    sent(s);
-    session(after);
-    text(b" ");
+pub fn step(
+    rt: &impl Print,
+    s: Sent,
+    after: Session,
+    reply: usize,
+    room: &[u8; 8],
+) -> io::Result<()> {
+    sent(rt, s)?;
+    session(rt, after)?;
+    text(rt, " ")?;
     if reply == 0 {
-        text(b" nothing");
+        text(rt, " nothing")?;
     }
-    words(room, 0, reply / 16);
-    text(b"\n");
+    words(rt, room, 0, reply / 16)?;
+    text(rt, "\n")
 }
 
 // What ACK brought: the PC, the EPC, and a CRC-16 that is not shown.
-pub fn found(room: &[u8; 8]) {
-    text(b"\nThe tag is found: PC");
-    words(room, 0, 1);
-    text(b", EPC");
-    words(room, 1, 3);
-    text(b".\n\n");
+pub fn found(rt: &impl Print, room: &[u8; 8]) -> io::Result<()> {
+    text(rt, "\nThe tag is found: PC")?;
+    words(rt, room, 0, 1)?;
+    text(rt, ", EPC")?;
+    words(rt, room, 1, 3)?;
+    text(rt, ".\n\n")
 }
 
 // A step of finding the tag that was not answered 0.
-pub fn lost(s: Sent, answer: u8) {
-    text(b"\nFAILED: ");
+pub fn lost(rt: &impl Print, s: Sent, answer: u8) -> io::Result<()> {
+    text(rt, "\nFAILED: ")?;
     match s {
-        Sent::Query => text(b"the reader's Query"),
-        Sent::QueryRep => text(b"the reader's QueryRep"),
-        Sent::Ack => text(b"the reader's ACK"),
-        Sent::ReqRn => text(b"the reader's Req_RN"),
+        Sent::Query => text(rt, "the reader's Query")?,
+        Sent::QueryRep => text(rt, "the reader's QueryRep")?,
+        Sent::Ack => text(rt, "the reader's ACK")?,
+        Sent::ReqRn => text(rt, "the reader's Req_RN")?,
     }
-    text(b" was answered ");
-    number(answer as u64);
-    text(b"\n");
+    text(rt, " was answered ")?;
+    number(rt, answer as u64)?;
+    text(rt, "\n")
 }
 
-pub fn heading() {
+pub fn heading(rt: &impl Print) -> io::Result<()> {
     text(
-        b"A gate writes a new loan entry over the old one by BlockWrite: seven words, 23 stores on the tag.\n",
-    );
+        rt,
+        "A gate writes a new loan entry over the old one by BlockWrite: seven words, 23 stores on the tag.\n",
+    )?;
     text(
-        b"The power is cut after k of them, or inside the next one. A line without k is such a torn store:\n",
-    );
+        rt,
+        "The power is cut after k of them, or inside the next one. A line without k is such a torn store:\n",
+    )?;
     text(
-        b"its high byte is made and its low byte is not, and the torn word is shown as it stands. The low\n",
-    );
+        rt,
+        "its high byte is made and its low byte is not, and the torn word is shown as it stands. The low\n",
+    )?;
     text(
-        b"byte alone is tried as well, and has a line where it leads the engine to another entry. The bank is\n",
-    );
+        rt,
+        "byte alone is tried as well, and has a line where it leads the engine to another entry. The bank is\n",
+    )?;
     text(
-        b"what the cut leaves in USER itself; then the reader powers up, and its layout engine reads the\n",
-    );
-    text(b"entry through the port.\n\nold entry ");
+        rt,
+        "what the cut leaves in USER itself; then the reader powers up, and its layout engine reads the\n",
+    )?;
+    text(rt, "entry through the port.\n\nold entry ")?;
     let old = playing::OLD;
-    entry(&old);
-    text(b"\nnew entry ");
+    entry(rt, &old)?;
+    text(rt, "\nnew entry ")?;
     let new = playing::NEW;
-    entry(&new);
+    entry(rt, &new)?;
     text(
-        b"\n\n k  stores made      torn  pending  bank   the engine reads                    verdict\n",
-    );
+        rt,
+        "\n\n k  stores made      torn  pending  bank   the engine reads                    verdict\n",
+    )
 }
 
 // How far the first 22 of a write's 23 stores have come: 14 stage its pairs, one announces them, 7 are the words themselves.
-fn on_the_way(made: usize) {
+fn on_the_way(rt: &impl Print, made: usize) -> io::Result<()> {
     if made < 15 {
-        text(b"staged ");
-        two(made);
-        text(b" of 14");
-        return;
+        text(rt, "staged ")?;
+        two(rt, made)?;
+        return text(rt, " of 14");
     }
     if made == 15 {
-        text(b"announced      ");
-        return;
+        return text(rt, "announced      ");
     }
-    text(b"words ");
-    number(made as u64 - 15);
-    text(b" of 7   ");
+    text(rt, "words ")?;
+    number(rt, made as u64 - 15)?;
+    text(rt, " of 7   ")
 }
 
 // How far the stores made have come.
-fn reached(made: usize) {
+fn reached(rt: &impl Print, made: usize) -> io::Result<()> {
     if made == 0 {
-        text(b"nothing        ");
-        return;
+        return text(rt, "nothing        ");
     }
     if made == 23 {
-        text(b"finished       ");
-        return;
+        return text(rt, "finished       ");
     }
-    on_the_way(made);
+    on_the_way(rt, made)
 }
 
 // A cut between stores, and the stores made before it.
-pub fn cut(k: usize, made: usize) {
-    two(k);
-    text(b"  ");
-    reached(made);
-    text(b"      ");
+pub fn cut(rt: &impl Print, k: usize, made: usize) -> io::Result<()> {
+    two(rt, k)?;
+    text(rt, "  ")?;
+    reached(rt, made)?;
+    text(rt, "      ")
 }
 
 // A cut inside a store: the byte made of it, and its word.
-pub fn torn(store: usize, half: Half, w: u16) {
+pub fn torn(rt: &impl Print, store: usize, half: Half, w: u16) -> io::Result<()> {
     match half {
-        Half::High => text(b"    high byte of "),
-        Half::Low => text(b"    low byte of "),
+        Half::High => text(rt, "    high byte of ")?,
+        Half::Low => text(rt, "    low byte of ")?,
     }
-    two(store);
+    two(rt, store)?;
     match half {
-        Half::High => text(b" "),
-        Half::Low => text(b"  "),
+        Half::High => text(rt, " ")?,
+        Half::Low => text(rt, "  ")?,
     }
-    word(w);
+    word(rt, w)
 }
 
 // The pending count, and what stands in USER.
-pub fn bank(pending: u16, seen: Seen) {
-    text(b"        ");
-    number(pending as u64);
+pub fn bank(rt: &impl Print, pending: u16, seen: Seen) -> io::Result<()> {
+    text(rt, "        ")?;
+    number(rt, pending as u64)?;
     match seen {
-        Seen::Old => text(b"  old   "),
-        Seen::New => text(b"  new   "),
-        Seen::Mixed => text(b"  mixed "),
+        Seen::Old => text(rt, "  old   "),
+        Seen::New => text(rt, "  new   "),
+        Seen::Mixed => text(rt, "  mixed "),
     }
 }
 
 // What the engine read, to the line's end.
-pub fn engine(words: &[u16; 7], seen: Seen) {
-    entry(words);
+pub fn engine(rt: &impl Print, words: &[u16; 7], seen: Seen) -> io::Result<()> {
+    entry(rt, words)?;
     match seen {
-        Seen::Old => text(b"  old entry, whole\n"),
-        Seen::New => text(b"  new entry, whole\n"),
-        Seen::Mixed => text(b"  MIXED\n"),
+        Seen::Old => text(rt, "  old entry, whole\n"),
+        Seen::New => text(rt, "  new entry, whole\n"),
+        Seen::Mixed => text(rt, "  MIXED\n"),
     }
 }
 
 // A step that was answered with a number that the story doesn't have.
-pub fn failure(k: usize, step: &[u8], answer: u8) {
-    text(b"\nFAILED at k = ");
-    number(k as u64);
-    text(b": ");
-    text(step);
-    text(b" was answered ");
-    number(answer as u64);
-    text(b"\n");
+pub fn failure(rt: &impl Print, k: usize, step: &str, answer: u8) -> io::Result<()> {
+    text(rt, "\nFAILED at k = ")?;
+    number(rt, k as u64)?;
+    text(rt, ": ")?;
+    text(rt, step)?;
+    text(rt, " was answered ")?;
+    number(rt, answer as u64)?;
+    text(rt, "\n")
 }
 
 pub fn begin() -> Sum {
@@ -304,22 +312,22 @@ pub fn counted(s: Sum, seen: Seen) -> Sum {
 }
 
 // The sum of the cuts of one kind.
-fn total(kind: &[u8], s: Sum) {
-    number(s.cuts);
-    text(b" cuts ");
-    text(kind);
-    text(b": ");
-    number(s.old);
-    text(b" old, ");
-    number(s.new);
-    text(b" new, ");
-    number(s.mixed);
-    text(b" mixed\n");
+fn total(rt: &impl Print, kind: &str, s: Sum) -> io::Result<()> {
+    number(rt, s.cuts)?;
+    text(rt, " cuts ")?;
+    text(rt, kind)?;
+    text(rt, ": ")?;
+    number(rt, s.old)?;
+    text(rt, " old, ")?;
+    number(rt, s.new)?;
+    text(rt, " new, ")?;
+    number(rt, s.mixed)?;
+    text(rt, " mixed\n")
 }
 
 // The last lines.
-pub fn totals(stores: Sum, bytes: Sum) {
-    text(b"\n");
-    total(b"between stores", stores);
-    total(b"inside a store", bytes);
+pub fn totals(rt: &impl Print, stores: Sum, bytes: Sum) -> io::Result<()> {
+    text(rt, "\n")?;
+    total(rt, "between stores", stores)?;
+    total(rt, "inside a store", bytes)
 }

@@ -5,6 +5,7 @@ use crate::asking;
 use crate::asking::{Asked, Said};
 use depot::{Made, Reading};
 use lines::{output, parts};
+use std::io;
 
 // The line's number, how many bytes frames are made into, and the place in what is to be written.
 #[derive(Clone, Copy)]
@@ -49,105 +50,132 @@ fn bytes_of(bits: usize) -> usize {
 
 // A frame, and what came behind its command.
 fn put_frame(
+    rt: &impl Print,
     out: &mut [u8; 65536],
     at: usize,
     bits: usize,
     room: &[u8; 521],
     behind: &[u8],
-) -> usize {
-    let q = output::labelled(out, at, b"frame ", bits as u64);
-    let q2 = output::byte(out, q, b' ');
-    let q3 = output::hex(out, q2, parts::first(room, bytes_of(bits)));
+) -> io::Result<usize> {
+    let q = output::labelled(rt, out, at, b"frame ", bits as u64)?;
+    let q2 = output::byte(rt, out, q, b' ')?;
+    let q3 = output::hex(rt, out, q2, parts::first(room, bytes_of(bits)))?;
     if behind.len() == 0 {
-        return output::byte(out, q3, b'\n');
+        return output::byte(rt, out, q3, b'\n');
     }
-    let q4 = output::byte(out, q3, b' ');
-    output::ending(out, q4, behind)
+    let q4 = output::byte(rt, out, q3, b' ')?;
+    output::ending(rt, out, q4, behind)
 }
 
 // What making answered.
-fn put_made(out: &mut [u8; 65536], at: usize, m: Made, room: &[u8; 521], behind: &[u8]) -> usize {
+fn put_made(
+    rt: &impl Print,
+    out: &mut [u8; 65536],
+    at: usize,
+    m: Made,
+    room: &[u8; 521],
+    behind: &[u8],
+) -> io::Result<usize> {
     match m {
-        Made::Frame(bits) => put_frame(out, at, bits, room, behind),
-        Made::Beyond => output::ending(out, at, b"refused 9"),
-        Made::NoRoom => output::ending(out, at, b"refused 4"),
+        Made::Frame(bits) => put_frame(rt, out, at, bits, room, behind),
+        Made::Beyond => output::ending(rt, out, at, b"refused 9"),
+        Made::NoRoom => output::ending(rt, out, at, b"refused 4"),
     }
 }
 
 // Makes the frame of a command in a room of so many bytes. Data of 512 bytes is beyond every limit, and so is more.
-fn made(out: &mut [u8; 65536], at: usize, room: usize, a: Asked, c: &[u8]) -> usize {
+fn made(
+    rt: &impl Print,
+    out: &mut [u8; 65536],
+    at: usize,
+    room: usize,
+    a: Asked,
+    c: &[u8],
+) -> io::Result<usize> {
     let mut data = [0u8; 512];
     let n = parts::bytes(data_of(c, a.data), &mut data);
     let mut bytes = [0u8; 521];
     let w = within(room);
     let command = a.command;
     let m = depot::make(command, &data[0..n], a.number, a.cover, &mut bytes[0..w]);
-    put_made(out, at, m, &bytes, parts::from(c, a.after))
+    put_made(rt, out, at, m, &bytes, parts::from(c, a.after))
 }
 
 // So many words from a bit on, as far as there are bytes.
 fn put_words(
+    rt: &impl Print,
     out: &mut [u8; 65536],
     at: usize,
     count: usize,
     from: usize,
     bytes: &[u8; 10000],
-) -> usize {
+) -> io::Result<usize> {
     let mut q = at;
     let mut p = from;
-    let mut k = 0;
-    while k < count {
+    for _ in 0..count {
         if p >= 80000 {
-            return q;
+            return Ok(q);
         }
-        q = output::word(out, q, bits::field(bytes, p, 16));
+        q = output::word(rt, out, q, bits::field(bytes, p, 16))?;
         p += 16;
-        k += 1;
     }
-    q
+    Ok(q)
 }
 
 // The line of so many words.
 fn put_count(
+    rt: &impl Print,
     out: &mut [u8; 65536],
     at: usize,
     count: usize,
     from: usize,
     bytes: &[u8; 10000],
-) -> usize {
-    let q = output::labelled(out, at, b"words ", count as u64);
-    let q2 = output::byte(out, q, b' ');
-    let q3 = put_words(out, q2, count, from, bytes);
-    output::byte(out, q3, b'\n')
+) -> io::Result<usize> {
+    let q = output::labelled(rt, out, at, b"words ", count as u64)?;
+    let q2 = output::byte(rt, out, q, b' ')?;
+    let q3 = put_words(rt, out, q2, count, from, bytes)?;
+    output::byte(rt, out, q3, b'\n')
 }
 
-fn put_error(out: &mut [u8; 65536], at: usize, code: u8) -> usize {
-    let q = output::text(out, at, b"error ");
-    let q2 = output::two_digits(out, q, code);
-    output::byte(out, q2, b'\n')
+fn put_error(rt: &impl Print, out: &mut [u8; 65536], at: usize, code: u8) -> io::Result<usize> {
+    let q = output::text(rt, out, at, b"error ")?;
+    let q2 = output::two_digits(rt, out, q, code)?;
+    output::byte(rt, out, q2, b'\n')
 }
 
-fn put_number(out: &mut [u8; 65536], at: usize, w: u16) -> usize {
-    let q = output::text(out, at, b"number ");
-    let q2 = output::word(out, q, w);
-    output::byte(out, q2, b'\n')
+fn put_number(rt: &impl Print, out: &mut [u8; 65536], at: usize, w: u16) -> io::Result<usize> {
+    let q = output::text(rt, out, at, b"number ")?;
+    let q2 = output::word(rt, out, q, w)?;
+    output::byte(rt, out, q2, b'\n')
 }
 
 // What reading answered.
-fn put_reading(out: &mut [u8; 65536], at: usize, r: Reading, bytes: &[u8; 10000]) -> usize {
+fn put_reading(
+    rt: &impl Print,
+    out: &mut [u8; 65536],
+    at: usize,
+    r: Reading,
+    bytes: &[u8; 10000],
+) -> io::Result<usize> {
     match r {
-        Reading::Error(code) => put_error(out, at, code),
-        Reading::Words { count, at: from } => put_count(out, at, count, from, bytes),
-        Reading::Number(w) => put_number(out, at, w),
-        Reading::Done => output::ending(out, at, b"done"),
-        Reading::Beyond => output::ending(out, at, b"refused 9"),
-        Reading::Checksum => output::ending(out, at, b"refused 8"),
-        Reading::Other => output::ending(out, at, b"refused 15"),
+        Reading::Error(code) => put_error(rt, out, at, code),
+        Reading::Words { count, at: from } => put_count(rt, out, at, count, from, bytes),
+        Reading::Number(w) => put_number(rt, out, at, w),
+        Reading::Done => output::ending(rt, out, at, b"done"),
+        Reading::Beyond => output::ending(rt, out, at, b"refused 9"),
+        Reading::Checksum => output::ending(rt, out, at, b"refused 8"),
+        Reading::Other => output::ending(rt, out, at, b"refused 15"),
     }
 }
 
 // Reads a reply to a command.
-fn heard(out: &mut [u8; 65536], at: usize, a: Asked, line: &[u8]) -> usize {
+fn heard(
+    rt: &impl Print,
+    out: &mut [u8; 65536],
+    at: usize,
+    a: Asked,
+    line: &[u8],
+) -> io::Result<usize> {
     let mut data = [0u8; 512];
     let n = parts::bytes(data_of(asking::replied(line), a.data), &mut data);
     let mut bytes = [0u8; 10000];
@@ -155,22 +183,22 @@ fn heard(out: &mut [u8; 65536], at: usize, a: Asked, line: &[u8]) -> usize {
     let command = a.command;
     let count = parts::size(line, 1);
     let r = depot::read(command, &data[0..n], a.number, count, &bytes[0..k]);
-    put_reading(out, at, r, &bytes)
+    put_reading(rt, out, at, r, &bytes)
 }
 
-fn room_line(out: &mut [u8; 65536], at: usize, room: usize) -> usize {
-    let q = output::labelled(out, at, b"# room ", room as u64);
-    output::byte(out, q, b'\n')
+fn room_line(rt: &impl Print, out: &mut [u8; 65536], at: usize, room: usize) -> io::Result<usize> {
+    let q = output::labelled(rt, out, at, b"# room ", room as u64)?;
+    output::byte(rt, out, q, b'\n')
 }
 
 // The answer to a line.
-fn put(out: &mut [u8; 65536], d: Desk, s: Said, line: &[u8]) -> usize {
+fn put(rt: &impl Print, out: &mut [u8; 65536], d: Desk, s: Said, line: &[u8]) -> io::Result<usize> {
     match s {
-        Said::Bad => output::bad_line(out, d.at, d.k),
-        Said::Through => output::ending(out, d.at, line),
-        Said::Room => room_line(out, d.at, d.room),
-        Said::Make(a) => made(out, d.at, d.room, a, line),
-        Said::Reply(a) => heard(out, d.at, a, line),
+        Said::Bad => output::bad_line(rt, out, d.at, d.k),
+        Said::Through => output::ending(rt, out, d.at, line),
+        Said::Room => room_line(rt, out, d.at, d.room),
+        Said::Make(a) => made(rt, out, d.at, d.room, a, line),
+        Said::Reply(a) => heard(rt, out, d.at, a, line),
     }
 }
 
@@ -183,22 +211,28 @@ fn room_after(d: Desk, s: Said, line: &[u8]) -> usize {
 }
 
 // A line that is not too long.
-fn answered(d: Desk, line: &[u8], out: &mut [u8; 65536]) -> Desk {
+fn answered(rt: &impl Print, d: Desk, line: &[u8], out: &mut [u8; 65536]) -> io::Result<Desk> {
     let s = asking::meant(line);
     let mut q = d;
     q.room = room_after(d, s, line);
-    let at = put(out, q, s, line);
-    q.at = at;
-    q
+    q.at = put(rt, out, q, s, line)?;
+    Ok(q)
 }
 
 // The first n bytes are line k; more than there are is a line too long.
-pub fn line(d: Desk, bytes: &[u8; 20000], k: u64, n: usize, out: &mut [u8; 65536]) -> Desk {
+pub fn line(
+    rt: &impl Print,
+    d: Desk,
+    bytes: &[u8; 20000],
+    k: u64,
+    n: usize,
+    out: &mut [u8; 65536],
+) -> io::Result<Desk> {
     let mut q = d;
     q.k = k;
     if n > 20000 {
-        q.at = output::bad_line(out, d.at, k);
-        return q;
+        q.at = output::bad_line(rt, out, d.at, k)?;
+        return Ok(q);
     }
-    answered(q, parts::first(bytes, n), out)
+    answered(rt, q, parts::first(bytes, n), out)
 }

@@ -1,7 +1,8 @@
 // The lines of the standard input, read by way of a chunk of it.
 ghost use Rattle.std.specs.Prelude.{◌≤◌};
 
-use libc::STDIN_FILENO;
+use std::io;
+use std::io::Read;
 
 // What of the chunk is not taken yet, the line's number, counted from 1, how many bytes it has (20,001: it is too long), whether it is there, and whether input is left.
 #[derive(Clone, Copy)]
@@ -45,13 +46,11 @@ fn within(end: usize) -> usize
 fn taken(s: Source, chunk: &[u8; 65536], line: &mut [u8; 20000]) -> Source {
     let end = within(s.end);
     let mut n = s.n;
-    let mut i = s.at;
-    while i < end {
+    for i in s.at..end {
         let c = chunk[i];
-        i += 1;
         if c == b'\n' {
             return Source {
-                at: i,
+                at: i + 1,
                 end: end,
                 k: s.k,
                 n: n,
@@ -62,7 +61,7 @@ fn taken(s: Source, chunk: &[u8; 65536], line: &mut [u8; 20000]) -> Source {
         n = kept(line, n, c);
     }
     Source {
-        at: i,
+        at: end,
         end: end,
         k: s.k,
         n: n,
@@ -72,17 +71,21 @@ fn taken(s: Source, chunk: &[u8; 65536], line: &mut [u8; 20000]) -> Source {
 }
 
 // Reads once; nothing more is the end, and makes a last line of what lacks its newline.
-fn filled(k: u64, n: usize, chunk: &mut [u8; 65536]) -> Source {
-    let got = libc::read(STDIN_FILENO, chunk);
-    let end = io::count(got, chunk);
-    Source {
+fn filled<R: Read>(
+    reader: &mut R,
+    k: u64,
+    n: usize,
+    chunk: &mut [u8; 65536],
+) -> io::Result<Source> {
+    let end = reader.read(chunk)?;
+    Ok(Source {
         at: 0,
         end: end,
         k: k,
         n: n,
         whole: end == 0 && n > 0,
         more: end > 0,
-    }
+    })
 }
 
 fn one_more(k: u64) -> u64 {
@@ -102,19 +105,22 @@ fn before(s: Source) -> Source {
 }
 
 // Reads the next line; where none is left, none is there.
-pub fn next(s: Source, chunk: &mut [u8; 65536], line: &mut [u8; 20000]) -> Source {
+pub fn next<R: Read>(
+    reader: &mut R,
+    s: Source,
+    chunk: &mut [u8; 65536],
+    line: &mut [u8; 20000],
+) -> io::Result<Source> {
     let mut q = before(s);
-    let mut turns = u64::MAX;
-    while turns > 0 {
+    for _ in 0..u64::MAX {
         if !q.more {
-            return q;
+            return Ok(q);
         }
         q = taken(q, chunk, line);
         if q.whole {
-            return q;
+            return Ok(q);
         }
-        q = filled(q.k, q.n, chunk);
-        turns -= 1;
+        q = filled(reader, q.k, q.n, chunk)?;
     }
-    q
+    Ok(q)
 }

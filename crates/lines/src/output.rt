@@ -2,56 +2,69 @@
 ghost use Rattle.std.specs.Prelude.{◌<◌};
 
 use crate::parts;
-use libc::STDOUT_FILENO;
+use std::io;
 
 // One byte; a full buffer is written out first.
-pub fn byte(out: &mut [u8; 65536], at: usize, c: u8) -> usize {
+pub fn byte(rt: &impl Print, out: &mut [u8; 65536], at: usize, c: u8) -> io::Result<usize> {
     if at < 65536 {
         out[at] = c;
-        return at + 1;
+        return Ok(at + 1);
     }
-    io::write_all(STDOUT_FILENO, out);
+    rt.write_all(out)?;
     out[0] = c;
-    1
+    Ok(1)
 }
 
 // Writes out what the buffer holds.
-pub fn flush(out: &[u8; 65536], at: usize) {
-    io::write_all(STDOUT_FILENO, parts::first(out, at));
+pub fn flush(rt: &impl Print, out: &[u8; 65536], at: usize) -> io::Result<()> {
+    rt.write_all(parts::first(out, at))
 }
 
-pub fn text(out: &mut [u8; 65536], at: usize, words: &[u8]) -> usize {
+pub fn text(rt: &impl Print, out: &mut [u8; 65536], at: usize, words: &[u8]) -> io::Result<usize> {
     let mut q = at;
-    let mut i = 0;
-    while i < words.len() {
-        q = byte(out, q, words[i]);
-        i += 1;
+    for c in words {
+        q = byte(rt, out, q, *c)?;
     }
-    q
+    Ok(q)
 }
 
 // Words to a line's end.
-pub fn ending(out: &mut [u8; 65536], at: usize, words: &[u8]) -> usize {
-    let q = text(out, at, words);
-    byte(out, q, b'\n')
+pub fn ending(
+    rt: &impl Print,
+    out: &mut [u8; 65536],
+    at: usize,
+    words: &[u8],
+) -> io::Result<usize> {
+    let q = text(rt, out, at, words)?;
+    byte(rt, out, q, b'\n')
 }
 
-fn decimal(out: &mut [u8; 65536], at: usize, n: u64) -> usize {
-    let mut digits = [0u8; 20];
-    let k = io::decimal(n, &mut digits);
-    text(out, at, &digits[..k])
+// A number in decimal: the digits above the last, and the last.
+fn decimal(rt: &impl Print, out: &mut [u8; 65536], at: usize, n: u64) -> io::Result<usize> {
+    let q = if n < 10 {
+        at
+    } else {
+        decimal(rt, out, at, n / 10)?
+    };
+    byte(rt, out, q, digit((n % 10) as u8))
 }
 
 // A label and a number.
-pub fn labelled(out: &mut [u8; 65536], at: usize, label: &[u8], n: u64) -> usize {
-    let q = text(out, at, label);
-    decimal(out, q, n)
+pub fn labelled(
+    rt: &impl Print,
+    out: &mut [u8; 65536],
+    at: usize,
+    label: &[u8],
+    n: u64,
+) -> io::Result<usize> {
+    let q = text(rt, out, at, label)?;
+    decimal(rt, out, q, n)
 }
 
 // The line that answers a bad line, the kth.
-pub fn bad_line(out: &mut [u8; 65536], at: usize, k: u64) -> usize {
-    let q = labelled(out, at, b"bad line ", k);
-    byte(out, q, b'\n')
+pub fn bad_line(rt: &impl Print, out: &mut [u8; 65536], at: usize, k: u64) -> io::Result<usize> {
+    let q = labelled(rt, out, at, b"bad line ", k)?;
+    byte(rt, out, q, b'\n')
 }
 
 fn digit(d: u8) -> u8
@@ -61,27 +74,25 @@ fn digit(d: u8) -> u8
 }
 
 // A byte as two hex digits.
-pub fn two_digits(out: &mut [u8; 65536], at: usize, c: u8) -> usize {
-    let q = byte(out, at, digit(c / 16));
-    byte(out, q, digit(c % 16))
+pub fn two_digits(rt: &impl Print, out: &mut [u8; 65536], at: usize, c: u8) -> io::Result<usize> {
+    let q = byte(rt, out, at, digit(c / 16))?;
+    byte(rt, out, q, digit(c % 16))
 }
 
 // Bytes as hex, or - for none.
-pub fn hex(out: &mut [u8; 65536], at: usize, bytes: &[u8]) -> usize {
+pub fn hex(rt: &impl Print, out: &mut [u8; 65536], at: usize, bytes: &[u8]) -> io::Result<usize> {
     if bytes.len() == 0 {
-        return text(out, at, b"-");
+        return text(rt, out, at, b"-");
     }
     let mut q = at;
-    let mut i = 0;
-    while i < bytes.len() {
-        q = two_digits(out, q, bytes[i]);
-        i += 1;
+    for c in bytes {
+        q = two_digits(rt, out, q, *c)?;
     }
-    q
+    Ok(q)
 }
 
 // A word as four hex digits.
-pub fn word(out: &mut [u8; 65536], at: usize, w: u16) -> usize {
-    let q = two_digits(out, at, (w / 256) as u8);
-    two_digits(out, q, (w % 256) as u8)
+pub fn word(rt: &impl Print, out: &mut [u8; 65536], at: usize, w: u16) -> io::Result<usize> {
+    let q = two_digits(rt, out, at, (w / 256) as u8)?;
+    two_digits(rt, out, q, (w % 256) as u8)
 }

@@ -6,14 +6,12 @@ fn end_of(line: &[u8], from: usize) -> usize
     requires { from ≤ length line.now }
     ensures { (from ≤ result) × (result ≤ length line.now) }
 {
-    let mut i = from;
-    while i < line.len() {
+    for i in from..line.len() {
         if line[i] == b' ' {
             return i;
         }
-        i += 1;
     }
-    i
+    line.len()
 }
 
 // Where part k starts, or the line's end.
@@ -21,14 +19,12 @@ fn start_of(line: &[u8], k: usize) -> usize
     ensures { result ≤ length line.now }
 {
     let mut at = 0;
-    let mut i = 0;
-    while i < k {
+    for _ in 0..k {
         at = end_of(line, at);
         if at == line.len() {
             return at;
         }
         at += 1;
-        i += 1;
     }
     at
 }
@@ -57,12 +53,10 @@ pub fn first(bytes: &[u8], n: usize) -> &[u8] {
 // How many parts follow a line's first word: as many as it has spaces.
 pub fn count(line: &[u8]) -> usize {
     let mut n = 0;
-    let mut i = 0;
-    while i < line.len() {
-        if line[i] == b' ' {
+    for c in line {
+        if *c == b' ' {
             n += 1;
         }
-        i += 1;
     }
     n
 }
@@ -71,12 +65,10 @@ pub fn same(p: &[u8], name: &[u8]) -> bool {
     if p.len() != name.len() {
         return false;
     }
-    let mut i = 0;
-    while i < p.len() {
+    for i in 0..p.len() {
         if p[i] != name[i] {
             return false;
         }
-        i += 1;
     }
     true
 }
@@ -91,12 +83,10 @@ fn is_digit(c: u8, hex: bool) -> bool {
 }
 
 fn all_digits(p: &[u8], hex: bool) -> bool {
-    let mut i = 0;
-    while i < p.len() {
-        if !is_digit(p[i], hex) {
+    for c in p {
+        if !is_digit(*c, hex) {
             return false;
         }
-        i += 1;
     }
     true
 }
@@ -123,10 +113,8 @@ fn added(n: u64, c: u8) -> u64 {
 // The number that digits say, if it is at most 4,294,967,295.
 fn amount(p: &[u8]) -> u64 {
     let mut n = 0;
-    let mut i = 0;
-    while i < p.len() {
-        n = added(n, p[i]);
-        i += 1;
+    for c in p {
+        n = added(n, *c);
     }
     n
 }
@@ -182,12 +170,10 @@ fn is_of(p: &[u8], kind: u8) -> bool {
 
 // Whether parts of these kinds follow a line's first word, whatever comes then.
 pub fn begins(line: &[u8], kinds: &[u8]) -> bool {
-    let mut k = 0;
-    while k < kinds.len() {
+    for k in 0..kinds.len() {
         if !is_of(part(line, k + 1), kinds[k]) {
             return false;
         }
-        k += 1;
     }
     true
 }
@@ -241,13 +227,11 @@ pub fn word(line: &[u8], k: usize) -> u16 {
 pub fn bytes(p: &[u8], into: &mut [u8]) -> usize
     ensures { result ≤ length into.new }
 {
-    let mut i = 0;
-    while i < into.len() {
+    for i in 0..into.len() {
         if p.len() / 2 <= i {
             return i;
         }
         into[i] = pair(p[2 * i], p[2 * i + 1]);
-        i += 1;
     }
-    i
+    into.len()
 }
