@@ -20,7 +20,7 @@ settle-rest-requires c = let a = c.args in
     let few : length xs ≤ a.n = chosen-most a.at a.words.now a.from a.skip.now a.n in
     let h : 0 < length xs = omega (arith, c.if-k-eq0.false, c.stage-staged.ensures.pairs) in
     let e : c.stage-staged.result.pairs ≡ length xs = c.stage-staged.ensures.pairs in
-    ((omega arith, omega arith, omega arith), λ j l. change-under a.work a.image.now (omega arith) c.stage-staged.ensures h c.if-left-eq0.false (omega arith) (chosen-under a.at a.words.now a.from a.skip.now a.n a.work (omega arith)) j (rw e at l))
+    record { n_bound = (omega arith, omega arith, omega arith); by_index = λ j l. change-under a.work a.image.now (omega arith) c.stage-staged.ensures h c.if-left-eq0.false (omega arith) (chosen-under a.at a.words.now a.from a.skip.now a.n a.work (omega arith)) j (rw e at l) }
 
 pub returns : goal.returns
 returns c = let a = c.args in
