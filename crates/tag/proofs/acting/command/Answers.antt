@@ -19,7 +19,7 @@ returns-then-g-ne0 c = let a = c.args in let m = a.image.now in let y = layout_o
 
 pub perform-requires : goal.perform-requires
 perform-requires c = let a = c.args in let m = a.image.now in let y = layout_of m in
-    (good-long y m c.requires.0, rw c.decide-plan.ensures (plan-sound y m a.frame.now c.requires.0 c.unpack-v.result a.c.order c.requires.1))
+    record { in_bounds = good-long y m c.requires.good; sound = rw c.decide-plan.ensures (plan-sound y m a.frame.now c.requires.good c.unpack-v.result a.c.order c.requires.placed) }
 
 pub returns : goal.returns
 returns c = let a = c.args in let m = a.image.now in let y = layout_of m in let v = numbers_in a.r in

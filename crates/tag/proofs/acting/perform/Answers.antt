@@ -3,4 +3,4 @@ use mathlib.Core.Path.{◌∙◌}
 use Rattle.tag.proofs.acting.perform.Goals as goal
 
 pub returns-in-Fall : goal.returns-in-Fall
-returns-in-Fall c = rw refl (c.done.ensures _ _ ∙ rw (c.fallen.ensures, c.in-Fall.ensures))
+returns-in-Fall c = rw c.in-Fall.is (c.done.ensures _ _ ∙ rw (c.fallen.ensures, c.unpack-v.ensures))

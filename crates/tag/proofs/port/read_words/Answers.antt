@@ -17,7 +17,8 @@ pub returns-then-end-ne0 : goal.returns-then-end-ne0
 returns-then-end-ne0 c = let a = c.args in let m = a.image.now in (c.read_end-end.ensures ∙ row-end a.h m a.at a.count (length a.room.now) (sym c.front-row.ensures ∙ c.if-row-ne0.false), room-kept a.dead m a.at a.count a.room.now c.if-end-ne0.true)
 
 pub show-requires : goal.show-requires
-show-requires c = let a = c.args in let m = a.image.now in let e = end-zero (layout_of m) a.at a.count (length a.room.now) (sym c.read_end-end.ensures ∙ c.if-end-ne0.false) in (row-0 m (ready-zero m (ready-front a.h m a.at a.count (length a.room.now) (sym c.front-row.ensures ∙ c.if-row-ne0.false))).0, (e.0, e.1))
+show-requires c = let a = c.args in let m = a.image.now in let e = end-zero (layout_of m) a.at a.count (length a.room.now) (sym c.read_end-end.ensures ∙ c.if-end-ne0.false) in
+    record { good = row-0 m (ready-zero m (ready-front a.h m a.at a.count (length a.room.now) (sym c.front-row.ensures ∙ c.if-row-ne0.false))).0; count_value = e.0; count_in_bounds = e.1 }
 
 pub returns : goal.returns
 returns c = let a = c.args in let m = a.image.now in (sym c.if-end-ne0.false ∙ c.read_end-end.ensures ∙ row-end a.h m a.at a.count (length a.room.now) (sym c.front-row.ensures ∙ c.if-row-ne0.false), c.show.ensures ∙ sym (room-shown a.dead m a.at a.count a.room.now refl))

@@ -14,8 +14,11 @@ use Rattle.tag.proofs.port.store_open.Goals as goal
 
 pub mark-writable-requires : goal.mark-writable-requires
 mark-writable-requires c = let a = c.args in
-    let h = fits_count a.y a.at (length a.words.now / 2) (fits-data a.y a.at a.words.now c.requires.1.0).0 in
-    ((h.1, omega (arith, h.1), omega (arith, h.2, c.requires.0.header.user.most), c.requires.0.header.block_least), λ j l. get_or-replicate 255 j 0 0 (omega (arith, h.1, l)))
+    let h = fits_count a.y a.at (length a.words.now / 2) (fits-data a.y a.at a.words.now c.requires.words_value).0 in
+    record {
+      n_in_bounds = (h.1, omega (arith, h.1), omega (arith, h.2, c.requires.good.header.user.most), c.requires.good.header.block_least);
+      by_index = λ j l. get_or-replicate 255 j 0 0 (omega (arith, h.1, l));
+    }
 
 pub returns-then-s-need : goal.returns-then-s-need
 returns-then-s-need c = let a = c.args in
@@ -25,11 +28,11 @@ returns-then-s-need c = let a = c.args in
     let k = c.mark-writable.ensures.0 in
     let bytes = c.type_inv.words in
     let ss = written_words y m a.at d (length d / 2) in
-    let p = made-written y m a.at c.requires.1.1.1 d k (λ j. omega (arith, bytes j)) c.change-made.ensures in
-    let n : length (change_stores y.work.at ss) ≡ c.needed-need.result = written-needs y m a.at c.requires.1.1.1 d k ∙ sym c.needed-need.ensures.0 in
+    let p = made-written y m a.at c.requires.image_value d k (λ j. omega (arith, bytes j)) c.change-made.ensures in
+    let n : length (change_stores y.work.at ss) ≡ c.needed-need.result = written-needs y m a.at c.requires.image_value d k ∙ sym c.needed-need.ensures.0 in
     let l : a.s < length (change_stores y.work.at ss) = omega (arith, n, c.if-s-need.true) in
     let e : c.change-made.result ≡ a.s = omega (arith, p.made, l) in
-    rw (c.stopped.ensures, e, p.image) (write-cut a.l y m a.at d a.s ss (some_unwritten y m a.at (length d / 2)) c.requires.1.1.0 refl refl l)
+    rw (c.stopped.ensures, e, p.image) (write-cut a.l y m a.at d a.s ss (some_unwritten y m a.at (length d / 2)) c.requires.state_value refl refl l)
 
 pub returns : goal.returns
 returns c = let a = c.args in
@@ -39,9 +42,9 @@ returns c = let a = c.args in
     let k = c.mark-writable.ensures.0 in
     let bytes = c.type_inv.words in
     let ss = written_words y m a.at d (length d / 2) in
-    let p = made-written y m a.at c.requires.1.1.1 d k (λ j. omega (arith, bytes j)) c.change-made.ensures in
-    let n : length (change_stores y.work.at ss) ≡ c.needed-need.result = written-needs y m a.at c.requires.1.1.1 d k ∙ sym c.needed-need.ensures.0 in
+    let p = made-written y m a.at c.requires.image_value d k (λ j. omega (arith, bytes j)) c.change-made.ensures in
+    let n : length (change_stores y.work.at ss) ≡ c.needed-need.result = written-needs y m a.at c.requires.image_value d k ∙ sym c.needed-need.ensures.0 in
     let l : length (change_stores y.work.at ss) ≤ a.s = omega (arith, n, c.if-s-need.false) in
     let e : c.change-made.result ≡ length (change_stores y.work.at ss) = omega (arith, p.made, l) in
-    let i : c.change-made.new.0 ≡ after m (change_stores y.work.at ss) = p.image ∙ ap (after m) (take_all _ _ l) in
-    rw (c.done.ensures, c.with_unwritten.ensures, e, i) (write_done a.l y m a.at d a.s ss (not (eqb c.mark-writable.result (length d / 2))) c.requires.1.1.0 refl (unwritten-by y m a.at c.requires.1.1.1 d k) l)
+    let i : c.change-made.new.image ≡ after m (change_stores y.work.at ss) = p.image ∙ ap (after m) (take_all _ _ l) in
+    rw (c.done.ensures, c.with_unwritten.ensures, e, i) (write_done a.l y m a.at d a.s ss (not (eqb c.mark-writable.result (length d / 2))) c.requires.state_value refl (unwritten-by y m a.at c.requires.image_value d k) l)

@@ -4,10 +4,11 @@ use Rattle.states.specs.declared.Numbers.{Numbers}
 use Prim.Native.Nat.{ℕ}
 use mathlib.Core.Path.{◌≡◌, refl}
 use mathlib.Core.Bool.{Bool, true, false, not, ◌||◌}
-use mathlib.Core.Logic.{⊎_elim}
 use lib.Dec.{eqb, leb}
 use borrow.Author.Tests.{eq-eqb, ne_eqb}
 use Rattle.tag.proofs.recording.numbers_fit.Goals as goal
+use Rattle.tag.proofs.recording.numbers_fit.Goals.{then-v-eq0+else-v-ne0, else-v-eq0}
+use native.Mathlib.Omega.{arith}
 
 -- past the test of the cover number
 or-true : (b : Bool) → (b || true) ≡ true
@@ -33,7 +34,7 @@ unfolding numbers_fit
 returns-then-v-ne0 c = simp (eq-eqb _ _ c.if-v-eq0.true, ne_eqb _ _ c.if-v-ne0.true)
 
 pub returns-then-v-eq0-2 : goal.returns-then-v-eq0-2
-returns-then-v-eq0-2 c = let v = c.args.v in no-half v (⊎_elim (λ w. with_none v.covered v.cover w.2.left) (λ w. with-one v.covered v.cover w.left) c.if-v-eq0.branch) c.if-v-eq0-2.true
+returns-then-v-eq0-2 c = let v = c.args.v in no-half v (elim c.if-v-eq0.branch [ then-v-eq0+else-v-ne0 w ↦ with_none v.covered v.cover (omega (arith, w.if-v-ne0)) | else-v-eq0 w ↦ with-one v.covered v.cover w.if-v-eq0.false ]) c.if-v-eq0-2.true
 
 pub returns : goal.returns
-returns c = let v = c.args.v in a_half v (⊎_elim (λ w. with_none v.covered v.cover w.2.left) (λ w. with-one v.covered v.cover w.left) c.if-v-eq0.branch) c.if-v-eq0-2.false
+returns c = let v = c.args.v in a_half v (elim c.if-v-eq0.branch [ then-v-eq0+else-v-ne0 w ↦ with_none v.covered v.cover (omega (arith, w.if-v-ne0)) | else-v-eq0 w ↦ with-one v.covered v.cover w.if-v-eq0.false ]) c.if-v-eq0-2.false

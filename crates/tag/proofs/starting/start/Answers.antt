@@ -26,5 +26,5 @@ returns c = let a = c.args in
     let p = c.power-made.ensures in
     let l : length (power_stores a.y a.image.now) ≤ a.s = omega (arith, n, c.if-s-n.false) in
     let k : c.power-made.result ≡ length (power_stores a.y a.image.now) = omega (arith, p.made, l) in
-    let e : c.power-made.new.0 ≡ after a.image.now (power_stores a.y a.image.now) = p.image ∙ ap (after a.image.now) (take_all _ _ l) in
+    let e : c.power-made.new.image ≡ after a.image.now (power_stores a.y a.image.now) = p.image ∙ ap (after a.image.now) (take_all _ _ l) in
     rw (c.first_session.ensures, k, e) (simp (le-ltb _ _ l))
