@@ -10,8 +10,8 @@ use lib.ListN.{get_or}
 use Rattle.bits.specs.Words.{word_at, with_word, Store, store, after}
 use Rattle.bits.specs.Bits.{bits_of, words_bits}
 use Rattle.bits.specs.Below.{below}
-use Rattle.crc.specs.Crc.{run, crc_of}
-use Rattle.crc.specs.Crc5.{run5, crc5_of}
+use Rattle.crc.specs.Crc.{run, shift, crc_of}
+use Rattle.crc.specs.Crc5.{run5, shift5, crc5_of}
 use Rattle.image.specs.declared.Layout.{Layout}
 use Rattle.image.specs.Layout.{layout_of, blocks_in}
 use Rattle.image.specs.Content.{pair_at, pending}
@@ -90,7 +90,7 @@ header-so m = record { block = refl; status = refl; reserved = refl; epc = refl;
 
 runs : (r : ℕ) (bs : List ℕ) → run r bs ≡ divided r bs
 runs r [] = refl
-runs r (b ∷ bs) = runs _ bs
+runs r (b ∷ bs) = runs (shift r b) bs
 
 crc-so : (bs : List ℕ) → crc_of bs ≡ 0xFFFF - divided 0xFFFF bs
 unfolding crc_of
@@ -98,7 +98,7 @@ crc-so bs = ap (λ (r : ℕ). 0xFFFF - r) (runs 0xFFFF bs)
 
 runs5 : (r : ℕ) (bs : List ℕ) → run5 r bs ≡ divided5 r bs
 runs5 r [] = refl
-runs5 r (b ∷ bs) = runs5 _ bs
+runs5 r (b ∷ bs) = runs5 (shift5 r b) bs
 
 crc5-so : (bs : List ℕ) → crc5_of bs ≡ divided5 0x09 bs
 unfolding crc5_of

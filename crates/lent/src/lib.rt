@@ -73,7 +73,7 @@ pub fn frame(
     room: &mut [u8],
     s: usize,
 ) -> Outcome
-    ensures { (result_of result image.new room.new ≡ first_of (frame_of change_stores (record { session = session.entry.now; image = image.old; frame = frame.now; bits = n; fresh = fresh; room = room.old; power = s }))) × (session.exit.now ≡ result.session) }
+    ensures { (result_of result image.new room.new ≡ first_of (frame_of change_stores (record { session = session.old; image = image.old; frame = frame.now; bits = n; fresh = fresh; room = room.old; power = s }))) × (session.new ≡ result.session) }
 {
     let o = (*session).frame(image, frame, n, fresh, room, s);
     *session = o.session;
