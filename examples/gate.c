@@ -1,9 +1,9 @@
 /* A depot gate around the library: it finds a tag by inventory, opens it with its access password, writes a loan entry to USER and reads it
    back. Each frame comes from depot_make, and each reply is read by depot_read: the gate counts no bit, but to take words out (word_of). The
    tag is played by tag_frame, as if over the air; of a real one the gate knows no more than what this one replies. Exits with 1 where anything
-   is not as it should be. After `rt staticlib capi`, on x86-64:
+   is not as it should be. After `rt lib` in crates/capi, on x86-64:
 
-       cc -std=c11 -Iinclude examples/gate.c target/staticlib/libcapi.a -o gate && ./gate */
+       cc -std=c11 -Iinclude examples/gate.c crates/capi/out/libcapi.a -o gate && ./gate */
 #include <stdio.h>
 #include "swellbinnacle.h"
 

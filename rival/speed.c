@@ -120,7 +120,8 @@ enum { SMALL, SINGLE, LARGEST };
 static const char *const images[] = {"small", "256, B = 1", "largest"};
 
 static void fill(int image) {
-    static const unsigned sizes[][5] = {{16, 4, 8, 2, 64}, {1, 4, 8, 2, 256}, {16, 64, 33, 64, 4096}}, *z = sizes[image];
+    static const unsigned sizes[][5] = {{16, 4, 8, 2, 64}, {1, 4, 8, 2, 256}, {16, 64, 33, 64, 4096}};
+    const unsigned *z = sizes[image];
     in = &here[image == LARGEST];
     in->bytes = image_make(in->image, z[0], z[1], z[2], z[3], z[4], 255);
     unsigned user = word(10), n = word(11);

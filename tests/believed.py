@@ -4,32 +4,33 @@ the methods of `tag::Session` reach, without comments, imports and empty lines; 
 Writes a line for each file, then the sum of each part; names what a file has that no promise reaches."""
 import os
 import re
+import sys
 
 CRATES = os.path.join(os.path.dirname(os.path.abspath(__file__)), "..", "crates")
 FILES = """bits/Words bits/Bits bits/Below bits/First crc/Crc crc/Crc5 image/Layout image/Content image/Check ebv/Ebv frames/Message
 frames/Frames replies/Replies replies/Pack stores/Stores rights/Rights states/Commands states/Inventory plans/Effects tag/Session
 tag/Result tag/Table tag/Port tag/Power""".split()
 PROMISED = {
-    "image/Check": "checkOf meaning",
-    "stores/Stores": "changeStores",
-    "tag/Session": "numberOf",
-    "tag/Result": "result firstOf",
-    "tag/Table": "frameOf",
-    "tag/Port": "askOf releaseOf registerOf readOf writeOf",
-    "tag/Power": "powerUpOf",
+    "image/Check": "check_of meaning",
+    "stores/Stores": "change_stores",
+    "tag/Session": "number_of",
+    "tag/Result": "result_of first_of",
+    "tag/Table": "frame_of",
+    "tag/Port": "ask_of release_of register_of read_of write_of",
+    "tag/Power": "power_up_of",
 }
 DEPOT_FILES = "readings/Reading depot/Limits depot/Making depot/Reading".split()
-DEPOT_PROMISED = {"readings/Reading": "meaning", "depot/Making": "sent makeOf", "depot/Reading": "readOf"}
+DEPOT_PROMISED = {"readings/Reading": "meaning", "depot/Making": "sent make_of", "depot/Reading": "read_of"}
 C_FILES = "states/Numbers tag/Records capi/Told capi/Depot".split()
 C_PROMISED = {
-    "states/Numbers": "numbersIn",
-    "tag/Records": "sessionOf inNumbers",
-    "capi/Told": "told sheetOf",
-    "capi/Depot": "commandOf makeFor readFor framed replyOf",
+    "states/Numbers": "numbers_in",
+    "tag/Records": "session_of in_numbers",
+    "capi/Told": "told sheet_of",
+    "capi/Depot": "command_of make_for read_for framed reply_of",
 }
-BEGINS = re.compile(r"(?:abbrev |unfoldable )?pub (?:record |data )?([A-Za-z][\w′-]*)(?: \(.*\))? : ")
+BEGINS = re.compile(r"(?:abbrev |unfoldable )?pub (?:record |data )?([A-Za-z][\w']*)(?: \(.*\))? : ")
 CASE = re.compile(r"\s+([A-Za-z]\w*) :")
-NAME = re.compile(r"(?:\b(\w+)\.)?([A-Za-z][\w′-]*)")
+NAME = re.compile(r"(?:\b(\w+)\.)?([A-Za-z][\w']*)")
 
 
 def lines_of(file):
@@ -42,8 +43,8 @@ def read(file):
     """The definitions of a file, name to lines, and what its imports name."""
     defined, owner, named, folders, at = {}, {}, {}, {}, None
     for line in lines_of(file):
-        brought = re.match(r"use Rattle·(\w+)(?:·specs)?\.specs\.([\w.]+)\.\{(.*)\}", line)
-        folder = re.match(r"use Rattle·(\w+)(?:·specs)?\.specs\.([\w.]+) as (\w+)", line)
+        brought = re.match(r"use Rattle\.(\w+)\.specs\.([\w.]+)\.\{(.*)\}", line)
+        folder = re.match(r"use Rattle\.(\w+)\.specs\.([\w.]+) as (\w+)", line)
         if brought:
             for part in brought.group(3).split(","):
                 first, *rest = part.split(" as ")
@@ -81,10 +82,13 @@ def reach(known, todo):
             for folder, word in NAME.findall(line):
                 if folder in folders:
                     todo.append((folders[folder], word))
-                elif word in defined or word in owner:
-                    todo.append((file, word))
-                elif word in named:
-                    todo.append(named[word])
+                    continue
+                # a part of a value: what stands before the point is a name too
+                for each in folder, word:
+                    if each in defined or each in owner:
+                        todo.append((file, each))
+                    elif each in named:
+                        todo.append(named[each])
     return seen
 
 
@@ -92,6 +96,9 @@ def count(files, promised, what):
     """Prints the lines of the files that the promised names reach, and their sum."""
     known = {file: read(file) for file in files}
     todo = [(file, name) for file, names in promised.items() for name in names.split()]
+    lost = [f"{file} {name}" for file, name in todo if name not in known[file][0]]
+    if lost:
+        sys.exit("believed: there is no definition " + ", ".join(lost))
     todo += [(file, "module") for file in files if "module" in known[file][0]]
     seen = reach(known, todo)
     total = 0

@@ -10,7 +10,7 @@ if not all(os.access("target/c/speed-%d" % k, os.X_OK) for k in range(4)):
     sys.exit("times: run tests/speed, which builds the four programs")
 best = {}
 for k in range(4):
-    told = subprocess.check_output(["tests/c/build", "--run", "target/c/speed-%d" % k] + (sys.argv[1:2] or ["times"]), text=True)
+    told = subprocess.check_output(["target/c/speed-%d" % k] + (sys.argv[1:2] or ["times"]), text=True)
     for line in told.splitlines():
         name, image, *times = line.split("|")
         here = best.setdefault((image, name), [float("inf")] * 3)

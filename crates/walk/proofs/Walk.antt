@@ -9,7 +9,7 @@ use Prim.Native.Nat.{zero}
 use mir.Syntax.{Ty, Fn}
 use base.Fml.{fat, fdies}
 use prog.Model.{Model}
-use prog.Routine.{Name, Env}
+use prog.Routine.{Callee, Env}
 use prog.Wp.{Env as Locals, Closed}
 use types.Kit.{Goal, Soaks, Seq, Step, step, frees, some, later, pick, await}
 use types.Run.{forget, free1}
@@ -35,7 +35,7 @@ pub use prog.Wp.{Heap, Calls, Loops, WpFn}
 pub use ghost.Atoms.{Atoms}
 use types.Logic.{Logic}
 pub use contract.Monad.{Fun, fact}
-pub use contract.Running.{given_of, tables}
+pub use contract.Running.{tables}
 pub use types.Kit.{Given, Item, ‵, raw, ◌⊛◌, ⋆, ◌$◌, ◌∵◌, !, qed, by, move, keep, drop, use0, use1, use2, split, join, fsplit, fsplit3, fjoin, fjoin3, feq_l, feq_i, suffices, frame, done}
 pub use types.Run.{look, init, stop, fld, from, load, of_opd, and_then, no_more, assigns, land, returns, enter, alloc1, alloc0, params1, pass1, pass0, free0}
 pub use types.Part.{agg, whole, sub, look_in}
@@ -79,7 +79,7 @@ module _ {M : Type 1} {𝓤 : Ura M} {𝓛 : Logic 𝓤} {K : Type 0} {Γ : List
 module _ {M : Type 1} {𝓤 : Ura M} (𝓛 : Logic 𝓤) (𝓜 : Model 𝓤 𝓛.H) (𝓡 : Running 𝓤 𝓛.H 𝓜) (T : Ended) (hs : Stays T.signature.params T.kept) (c : Clauses 𝓤 T) where
   open 𝓛 use {H}
 
-  pub concluded : (γ : Env) (k : Name) (e : Fn) → Closed 𝓤 H (tables 𝓤 H 𝓜 𝓡 γ).C (tables 𝓤 H 𝓜 𝓡 γ).Λ k e
+  pub concluded : (γ : Env) (k : Callee) (e : Fn) → Closed 𝓤 H (tables 𝓤 H 𝓜 𝓡 γ).C (tables 𝓤 H 𝓜 𝓡 γ).Λ k e
       → AllGo 𝓛 T.signature.lifetimes T.signature.params T.kept hs
       → (FmC 𝓤 H 𝓛.laws (tables 𝓤 H 𝓜 𝓡 γ).C → Walks 𝓛 T hs (WpFn 𝓤 H (tables 𝓤 H 𝓜 𝓡 γ).C (tables 𝓤 H 𝓜 𝓡 γ).Λ e) c)
       → Triple 𝓤 ((tables 𝓤 H 𝓜 𝓡 γ).C k) (triple_of 𝓛 T.signature (closing 𝓛 T c))
