@@ -36,7 +36,7 @@ pub use ghost.Atoms.{Atoms}
 use types.Logic.{Logic}
 pub use contract.Monad.{Fun, fact}
 pub use contract.Running.{tables}
-pub use types.Kit.{Given, Item, ‵, raw, ◌⊛◌, ⋆, ◌$◌, ◌∵◌, !, qed, by, move, keep, drop, use0, use1, use2, split, join, fsplit, fsplit3, fjoin, fjoin3, feq_l, feq_i, suffices, frame, done}
+pub use types.Kit.{Item, ‵, raw, ◌⊛◌, ⋆, ◌$◌, ◌∵◌, !, qed, by, move, keep, drop, use0, use1, use2, split, join, fsplit, fsplit3, fjoin, fjoin3, feq_l, feq_i, suffices, frame, done}
 pub use types.Run.{look, init, stop, fld, from, load, of_opd, and_then, no_more, assigns, land, returns, enter, alloc1, alloc0, params1, pass1, pass0, free0}
 pub use types.Part.{agg, whole, sub, look_in}
 pub use sound.WpLaws.{FmC}

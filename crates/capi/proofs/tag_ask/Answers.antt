@@ -1,0 +1,11 @@
+-- `capi::tag_ask` meets its contract: the core's own, through the record. Assumes nothing.
+use mathlib.Core.Path.{ap, ◌∙◌}
+use mathlib.Core.List.{[]}
+use Rattle.tag.specs.declared.Session.{Session}
+use Rattle.tag.specs.Port.{ask_of}
+use Rattle.tag.specs.Records.{in_numbers}
+use Rattle.tag.specs.Result.{first_of}
+use Rattle.capi.proofs.tag_ask.Goals as goal
+
+pub returns : goal.returns
+returns c = c.outcome.ensures [] [] ∙ ap in_numbers c.ask.ensures ∙ ap (λ (s : Session). in_numbers (first_of (ask_of s))) c.session_of.ensures
