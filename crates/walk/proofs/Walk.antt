@@ -20,7 +20,7 @@ use denote.Triple.Clauses.{Ended, Clauses, Lasts, at_exit, closing, ensured, las
 use denote.Triple.Table.{entered}
 use sound.WpLaws.{fm_of, WpFn-mono}
 use denote.Triple.Walked.{walk_Meets, AllGo, Walks}
-use seplogic.Ra.TreeShare.{full_share}
+use base.Fraction.{full_share}
 use denote.Slice.{slice_val}
 pub use mathlib.Core.List.{[], ◌∷◌, List}
 pub use Prim.Native.Nat.{ℕ, ◌<◌, ◌^◌}
