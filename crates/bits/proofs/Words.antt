@@ -8,7 +8,7 @@ use native.Mathlib.Nat.{div-add-mod'}
 use native.Mathlib.Omega.{arith}
 use lib.Dec.{ltb, lit<}
 use lib.Pow.{are_bytes}
-use lib.ListN.{length, get_or, set, take, drop, length-set}
+use lib.ListN.{length, set, take, drop, length-set}
 use lib.Seq.{get_or-set_same, get_or-set_other, drop-set-add, take-set-le}
 use borrow.Author.Tests.{ltb-true}
 use Rattle.bits.specs.Words.{Bytes, word_at, with_word}

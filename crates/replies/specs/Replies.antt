@@ -1,5 +1,5 @@
 -- The bits of each reply (RULES 3.9, 3.10, 11.5 and 11.6). Assumes nothing.
-use Rattle.std.specs.Prelude.{ℕ, ◌+◌, ◌*◌, ◌/◌, List, [], ◌∷◌, ◌++◌}
+use Rattle.std.specs.Prelude.{ℕ, ◌+◌, ◌*◌, List, [], ◌∷◌, ◌++◌}
 use Rattle.bits.specs.Bits.{bits_of, words_bits}
 use Rattle.crc.specs.Crc.{crc_of}
 use Rattle.replies.specs.declared.Reply.{Reply}

@@ -1,7 +1,5 @@
 -- `bits::alike_slowly` meets its contract. Invariant: the first k bits are alike. Assumes nothing.
-use Prim.Native.Nat.{◌-◌}
 use mathlib.Core.Path.{◌≡◌, refl, sym}
-use mathlib.Core.Bool.{true}
 use native.Mathlib.Omega.{arith}
 use Rattle.bits.specs.Bits.{alike}
 use Rattle.bits.proofs.Equal.{more-alike, not_alike}

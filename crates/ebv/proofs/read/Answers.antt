@@ -1,5 +1,4 @@
 -- `ebv::read` meets its contract. Invariant: the groups that are left make of the value so far what all groups make of 0. Assumes nothing.
-use Prim.Native.Nat.{◌-◌}
 use mathlib.Core.Path.{refl}
 use native.Mathlib.Omega.{arith}
 use Rattle.ebv.specs.Ebv.{pointer_at}

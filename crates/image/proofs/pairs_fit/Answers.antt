@@ -1,13 +1,9 @@
 -- `image::pairs_fit` meets its contract. Invariant: the pairs passed may be pending. Assumes nothing.
-use Rattle.image.specs.Steps.{pair_fits}
 use Rattle.bits.proofs.Below.{every-not, and_both}
-use Rattle.bits.specs.Below.{every}
 use borrow.Author.Tests.{not-true, not-false}
 use native.Mathlib.Omega.{arith}
 use native.Mathlib.Numerals.{add-one}
-use mathlib.Core.Bool.{true}
 use mathlib.Core.Path.{◌≡◌, refl, sym, ◌∙◌}
-use Prim.Native.Nat.{◌-◌}
 use Rattle.image.proofs.pairs_fit.Goals as goal
 
 pub loop-j-init : goal.loop-j-init

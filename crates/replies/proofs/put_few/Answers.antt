@@ -1,5 +1,4 @@
 -- `replies::put_few` meets its contract. Invariant: the first j words are packed. Assumes nothing.
-use Prim.Native.Nat.{◌-◌}
 use mathlib.Core.Path.{◌∙◌}
 use native.Mathlib.Omega.{arith}
 use Rattle.replies.proofs.Pen.{word-behind}

@@ -1,10 +1,9 @@
 -- `replies::put_fours` meets its contract. Invariant: the first j words are packed. Assumes nothing.
-use Prim.Native.Nat.{ℕ, ◌-◌, ◌<◌}
+use Prim.Native.Nat.{ℕ, ◌<◌}
 use mathlib.Core.Path.{refl, sym, ◌∙◌}
 use native.Mathlib.Omega.{arith}
 use lib.ListN.{get_or}
 use Rattle.bits.specs.Bits.{words_bits}
-use Rattle.replies.specs.Pack.{packed}
 use Rattle.replies.proofs.Laws.{packed_none}
 use Rattle.replies.proofs.Pen.{four-behind}
 use Rattle.replies.proofs.put_fours.Goals as goal

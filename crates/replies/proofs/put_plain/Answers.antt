@@ -1,9 +1,9 @@
 -- `replies::put_plain` meets its contract. Invariant: the first k bytes are packed. Assumes nothing.
-use Prim.Native.Nat.{ℕ, ◌*◌, ◌-◌, ◌<◌}
+use Prim.Native.Nat.{ℕ, ◌*◌, ◌<◌}
 use mathlib.Core.Path.{◌≡◌, refl, sym, ap, ◌∙◌}
 use mathlib.Core.List.{List}
 use native.Mathlib.Omega.{arith}
-use lib.ListN.{length, get_or, length-set}
+use lib.ListN.{get_or, length-set}
 use Rattle.replies.specs.Pack.{packed}
 use Rattle.bits.specs.Bits.{bits_from}
 use Rattle.replies.proofs.Laws.{packed_none}

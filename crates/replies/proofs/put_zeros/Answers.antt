@@ -1,9 +1,7 @@
 -- `replies::put_zeros` meets its contract. Invariant: so many bytes of 0 are packed. Assumes nothing.
-use Prim.Native.Nat.{◌-◌}
 use mathlib.Core.Path.{refl, sym}
 use native.Mathlib.Omega.{arith}
-use lib.ListN.{length, length-set}
-use Rattle.replies.specs.Pack.{packed}
+use lib.ListN.{length-set}
 use Rattle.replies.proofs.Laws.{packed_none}
 use Rattle.replies.proofs.Packing.{byte-zeroed}
 use Rattle.replies.proofs.put_zeros.Goals as goal

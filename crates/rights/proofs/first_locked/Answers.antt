@@ -1,5 +1,5 @@
 -- `rights::first_locked` meets its contract: blocks that are open are passed, and a locked one ends the search. Assumes nothing.
-use Prim.Native.Nat.{ℕ, ◌+◌, ◌*◌}
+use Prim.Native.Nat.{◌+◌, ◌*◌}
 use mathlib.Core.Path.{◌≡◌, sym, ◌∙◌}
 use native.Mathlib.Omega.{arith}
 use borrow.Author.Tests.{ne_eqb}
@@ -11,13 +11,13 @@ pub search-preserved : goal.search-preserved
 search-preserved c = record {
   inside = omega arith;
   here = λ h.
-    let s = c.search.invariant in
-    elim c.if-stop-end.branch [
-      then-stop-end w ↦ absurd (omega arith)
-    | else-stop-end w ↦
-      (let e : c.loop-i.i ≡ (c.search.b + 1) * c.if-width-eq0.width = omega arith in
-       block-next c.args.y.block (c.args.from + c.args.count) c.if-width-eq0.width c.search.i c.search.b c.loop-i.i s.wide (omega arith) (s.here (omega arith)) e h)
-    ];
+      let s = c.search.invariant in
+      elim c.if-stop-end.branch [
+        | then-stop-end w ↦ absurd (omega arith)
+        | else-stop-end w ↦
+            (let e : c.loop-i.i ≡ (c.search.b + 1) * c.if-width-eq0.width = omega arith in
+            block-next c.args.y.block (c.args.from + c.args.count) c.if-width-eq0.width c.search.i c.search.b c.loop-i.i s.wide (omega arith) (s.here (omega arith)) e h)
+      ];
   wide = c.search.invariant.wide;
   left = c.loop-i.invariant.left;
 }

@@ -2,7 +2,6 @@
 use mathlib.Core.Path.{sym}
 use Rattle.image.specs.Layout.{blocks_in}
 use native.Mathlib.Omega.{arith}
-use Prim.Native.Nat.{◌-◌}
 use Rattle.rights.proofs.Masks.{mask-all, mask-not}
 use Rattle.rights.proofs.mask_fits.Goals as goal
 

@@ -2,10 +2,8 @@
 use mathlib.Core.Path.{◌≡◌, sym, ap, ◌∙◌}
 use Rattle.rights.specs.Rights.{pair_breaks}
 use Rattle.bits.proofs.Below.{every-not}
-use Rattle.bits.specs.Below.{every}
 use native.Mathlib.Omega.{arith}
-use mathlib.Core.Bool.{true, not}
-use Prim.Native.Nat.{◌-◌}
+use mathlib.Core.Bool.{not}
 use Rattle.rights.proofs.pairs_kept.Goals as goal
 
 pub returns-then-pair_breaks : goal.returns-then-pair_breaks

@@ -3,12 +3,10 @@ use Rattle.image.specs.Layout.{blocks_in}
 use mathlib.Core.Path.{sym, ap}
 use Rattle.image.specs.Content.{permalock}
 use Rattle.bits.proofs.Below.{every-not}
-use Rattle.bits.specs.Below.{every}
 use native.Mathlib.Omega.{arith}
 use lib.Dec.{eqb}
 use borrow.Author.Tests.{ne_eqb}
-use mathlib.Core.Bool.{true, not}
-use Prim.Native.Nat.{◌-◌}
+use mathlib.Core.Bool.{not}
 use Rattle.rights.proofs.some_permalock.Goals as goal
 
 pub returns-then-permalock-ne0 : goal.returns-then-permalock-ne0
