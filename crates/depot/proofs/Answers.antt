@@ -7,7 +7,6 @@ use lib.ListN.{length}
 use borrow.Author.Tests.{lt-ltb, le-ltb}
 use Rattle.replies.specs.Pack.{packed}
 use Rattle.depot.specs.declared.Command.{Command}
-use Rattle.depot.specs.declared.Command.TheVariants as command
 use Rattle.depot.specs.Limits.{within}
 use Rattle.depot.specs.Making.{frame_bits, sending, make_of}
 use Rattle.readings.specs.Reading.{refused, rows_of}

@@ -16,7 +16,6 @@ use Rattle.crc.specs.Crc5.{crc5_of}
 use Rattle.crc.proofs.Linear.{of5, run-lt}
 use Rattle.ebv.specs.Ebv.{pointer_at, whole}
 use Rattle.frames.specs.declared.Order.{Order}
-use Rattle.frames.specs.declared.Order.TheVariants as order
 use Rattle.frames.specs.declared.Command.{Command}
 use Rattle.frames.specs.Message.{Message}
 use Rattle.frames.specs.Message as heard

@@ -23,7 +23,7 @@ use Rattle.depot.specs.declared.Command.{Command}
 use Rattle.readings.specs.declared.Awaited.{Awaited}
 use Rattle.readings.specs.declared.Awaited.TheVariants as await
 use Rattle.depot.specs.Limits.{within}
-use Rattle.readings.specs.Reading.{Told, Row, error, words, number, refused, drawn, epc, renewed, handle, success, failure, shown, asked, wrong_sum}
+use Rattle.readings.specs.Reading.{Told, Row, words, number, refused, drawn, epc, renewed, handle, success, failure, shown, asked, wrong_sum}
 use Rattle.depot.specs.Reading.{read_of}
 use Rattle.readings.specs.Steps.{is_drawn, kind_rows, awaited_rows, saying}
 use Rattle.depot.specs.Reading.{awaited_by}

@@ -2,7 +2,7 @@
 use Prim.Native.Nat.{ℕ, zero, suc, ◌+◌, ◌*◌, ◌/◌, ◌^◌, ◌≤◌, ◌<◌}
 use mathlib.Core.Path.{◌≡◌, refl, sym, ap, ap₂, ◌∙◌}
 use mathlib.Core.Logic.{◌⊎◌, inl, inr}
-use mathlib.Core.Bool.{Bool, true, false, cond, not, ◌&&◌}
+use mathlib.Core.Bool.{Bool, true, false, cond, ◌&&◌}
 use mathlib.Core.List.{List, [], ◌∷◌, ◌++◌, append-nil, append_assoc}
 use native.Mathlib.Numerals.{add-one}
 use native.Mathlib.Omega.{arith}
@@ -24,7 +24,7 @@ use Rattle.readings.specs.declared.Awaited.{Awaited}
 use Rattle.readings.specs.declared.Awaited.TheVariants as await
 use Rattle.depot.specs.Limits.{within}
 use Rattle.depot.specs.Making.{Field, fields}
-use Rattle.readings.specs.Reading.{Told, error, words, drawn, epc, renewed, handle, success, asked}
+use Rattle.readings.specs.Reading.{Told, asked}
 use Rattle.depot.specs.Reading.{read_of}
 use Rattle.readings.specs.Steps.{is_drawn, kind_rows, awaited_rows}
 use Rattle.readings.specs.Steps as steps

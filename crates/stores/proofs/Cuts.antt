@@ -21,12 +21,12 @@ use Rattle.image.specs.Content.{count_in, pair_at, pending}
 use Rattle.image.specs.Rules.{Good}
 use Rattle.image.proofs.Fits.{ok-if}
 use Rattle.stores.specs.Stores.{staged, finished, change_stores, epc_crc, settling, power_stores, power_up}
-use Rattle.stores.specs.Cuts.{Change, Cut, cut_after, cut_power_up, cut_power_ups, cut_image, reaches, Cuts}
+use Rattle.stores.specs.Cuts.{Change, Cut, cut_after, cut_power_up, cut_power_ups, reaches, Cuts}
 use Rattle.stores.proofs.Runs.{length-staged}
 use Rattle.stores.proofs.Pairs.{staged-avoids, announced-pairs}
 use Rattle.stores.proofs.Changes.{finished-other}
 use Rattle.stores.proofs.Sane.{Stays, Goes, Sane, Alike, settled, none-pending, pending-same, goes-under, rules-fit, crc-same, good-sane, sane-good, Follows, follows-trans, cleared}
-use Rattle.stores.proofs.Mixed.{Tear, none, high, low, joined, mix, mix_after, Lows, tear_of, tear_at, tear-seam, joined-stays, cut-mix, cut_by, cut-lows, run_length, run-avoids, run-whole, run-first, run-second, run-parts, run-again, run-fine}
+use Rattle.stores.proofs.Mixed.{Tear, none, high, low, joined, mix, mix_after, Lows, tear_at, tear-seam, joined-stays, cut-mix, cut_by, cut-lows, run_length, run-avoids, run-whole, run-first, run-second, run-parts, run-again, run-fine}
 
 finished-some : (w : ℕ) (ss : List Store) → 0 < length ss → finished w ss ≡ ss ++ (store w 0 ∷ [])
 finished-some w [] h = absurd (omega arith)

@@ -5,7 +5,7 @@ use Rattle.bits.specs.Words.{word_at}
 use lib.ListN.{length}
 use lib.Bits.{bit_or}
 use mathlib.Core.Path.{ap, ap₂, ◌∙◌}
-use Prim.Native.Nat.{◌+◌, ◌*◌, ◌-◌}
+use Prim.Native.Nat.{◌+◌, ◌*◌}
 use Rattle.changes.proofs.Words.{next_word}
 use native.Mathlib.Omega.{arith}
 use Rattle.changes.proofs.or_words.Goals as goal

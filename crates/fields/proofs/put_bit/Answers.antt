@@ -1,8 +1,6 @@
 -- `fields::put_bit` meets its contract. Assumes nothing.
 use borrow.Author.Rules.{rules}
 use Rattle.fields.proofs.Behind.{goes-bit}
-use Prim.Native.Nat.{◌/◌}
-use native.Mathlib.Omega.{arith}
 use Rattle.fields.proofs.put_bit.Goals as goal
 
 pub returns : goal.returns

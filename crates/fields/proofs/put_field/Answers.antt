@@ -2,7 +2,6 @@
 use Rattle.fields.proofs.Behind.{start, goes_on, field-more}
 use Rattle.bits.proofs.Bits.{length-bits}
 use Rattle.bits.specs.Bits.{bits_of}
-use lib.ListN.{length}
 use mathlib.Core.Path.{refl, ap, ◌∙◌}
 use Prim.Native.Nat.{ℕ, ◌+◌, ◌-◌, ◌/◌, ◌^◌}
 use native.Mathlib.Omega.{arith}

@@ -1,9 +1,8 @@
 -- `fields::put_payload` meets its contract. Invariant: the first k bits stand behind the others. Assumes nothing.
 use Rattle.fields.proofs.Behind.{goes_on, length_from, payload-more}
 use Rattle.bits.specs.Bits.{bits_from}
-use lib.ListN.{length}
 use mathlib.Core.Path.{ap, ◌∙◌}
-use Prim.Native.Nat.{ℕ, ◌+◌, ◌-◌}
+use Prim.Native.Nat.{ℕ, ◌+◌}
 use native.Mathlib.Omega.{arith}
 use Rattle.fields.proofs.put_payload.Goals as goal
 

@@ -2,8 +2,7 @@
 use Rattle.stores.specs.Steps.{pair_in}
 use Rattle.bits.specs.Words.{word_at}
 use mathlib.Core.Path.{◌≡◌, ◌∙◌}
-use Prim.Native.Nat.{◌+◌, ◌*◌, ◌-◌, ◌<◌}
-use lib.ListN.{length}
+use Prim.Native.Nat.{◌+◌, ◌*◌, ◌<◌}
 use native.Mathlib.Omega.{arith}
 use Rattle.stores.proofs.Runs.{ran-below, ran-length, ran-other}
 use Rattle.stores.proofs.apply.Goals as goal

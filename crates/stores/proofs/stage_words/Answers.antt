@@ -1,8 +1,5 @@
 -- `stores::stage_words` meets its contract. Invariant: the pairs of the words passed are staged. Assumes nothing.
-use lib.ListN.{length}
-use Rattle.stores.specs.Steps.{chosen}
 use mathlib.Core.Path.{◌∙◌}
-use Prim.Native.Nat.{◌-◌}
 use native.Mathlib.Omega.{arith}
 use Rattle.stores.proofs.Runs.{ran-length, chose-more, chosen-few}
 use Rattle.stores.proofs.stage_words.Goals as goal
