@@ -1,5 +1,5 @@
 -- No call leaves the bounds of a round's numbers and of a slot. Assumes nothing.
-use Prim.Native.Nat.{ℕ, ◌+◌, ◌-◌, ◌%◌, ◌^◌, ◌≤◌, ◌<◌}
+use Prim.Native.Nat.{ℕ, ◌+◌, ◌-◌, ◌^◌, ◌≤◌, ◌<◌}
 use mathlib.Core.Path.{◌≡◌, refl}
 use mathlib.Core.Bool.{Bool, true, false, cond}
 use mathlib.Core.List.{List}
@@ -7,35 +7,31 @@ use native.Mathlib.Omega.{arith}
 use native.Mathlib.Nat.{mod-lt, pow-le-pow_right}
 use lib.Dec.{eqb, ltb}
 use lib.Pow.{pow_pos}
-use borrow.Author.Tests.{ltb-true, eqb-false}
-use Rattle.image.specs.declared.Layout.{Layout}
+use borrow.Author.Tests.{ltb-true}
 use Rattle.image.specs.Layout.{layout_of}
 use Rattle.image.specs.Content.{killed_word}
 use Rattle.bits.specs.Words.{after}
 use Rattle.frames.specs.declared.Round.{Round}
 use Rattle.frames.specs.declared.Order.{Order}
 use Rattle.frames.specs.declared.Order.TheVariants as order
-use Rattle.frames.specs.declared.Command.{Command}
 use Rattle.frames.specs.Message.{Message}
 use Rattle.frames.specs.Message as heard
 use Rattle.frames.specs.Frames.{heard_of}
 use Rattle.frames.proofs.Orders.{Small, said-small}
 use Rattle.stores.specs.Stores.{change_stores, power_stores}
-use Rattle.states.specs.declared.Cover.{Cover}
 use Rattle.states.specs.declared.Half.{Half}
 use Rattle.states.specs.declared.Half.TheVariants as half
-use Rattle.states.specs.declared.Flags.{Flags}
 use Rattle.states.specs.declared.Link.{Link}
 use Rattle.states.specs.declared.State.{State}
 use Rattle.states.specs.declared.State.TheVariants as state
-use Rattle.states.specs.Commands.{link_of, slot_of, state_number, is_reply, was_acknowledged, zero_access, with_link, used, numbered, fallen, plain_link}
-use Rattle.states.specs.Inventory.{drawn, slot_from, matches, queried_flags, queried, adjusted_q, adjusted, counted_down, repeated, acknowledged}
+use Rattle.states.specs.Commands.{link_of, slot_of, state_number, is_reply, was_acknowledged, zero_access, with_link, used, fallen, plain_link}
+use Rattle.states.specs.Inventory.{drawn, slot_from, matches, queried_flags, adjusted_q, counted_down}
 use Rattle.plans.specs.Effects.{Scene, Effect, half_kill, half_access, effect_of}
 use Rattle.tag.specs.declared.Power.{Power}
 use Rattle.tag.specs.declared.Power.TheVariants as power
 use Rattle.tag.specs.Result.{Result, first_of}
 use Rattle.tag.specs.Power.{power_up_of}
-use Rattle.tag.specs.Table.{live_of, command_in, scene, effect, frame_of}
+use Rattle.tag.specs.Table.{live_of, command_in, scene, frame_of}
 use Rattle.tag.specs.Port.{ask_of, release_of, register_of, read_of, write_of}
 use Rattle.tag.specs.Steps.{input}
 use Rattle.demands.specs.Calls.{Call, power_up, frame, ask, release, register, read, write, Tag, answer_of, session_in}

@@ -59,7 +59,7 @@ use Rattle.demands.proofs.Rights.{marked-words, marked-every}
 use Rattle.demands.proofs.Terms.{terms-so}
 use Rattle.tag.specs.Port.{bad_count, bad_data, refusals, with_killed, with_unwritten, some_unwritten, written_words, read_bits, port_words, ask_of, release_of, register_of, read_of, write_of}
 use Rattle.demands.specs.Calls.{Aside, awake, answer_of, Idle}
-use Rattle.demands.specs.Commands.{Air, answers_to, linked, link, registered, flagged, quiet, replies, shows_epc, obeyed, Turns, Does, Rounds, Radio, NoImage, Transfers, Demand2}
+use Rattle.demands.specs.Commands.{Air, answers_to, linked, link, registered, flagged, quiet, shows_epc, obeyed, Turns, Does, Rounds, Radio, NoImage, Transfers, Demand2}
 use Rattle.demands.proofs.Rows.{Rows, None, none_first}
 use Rattle.demands.proofs.Cuts.{started-so}
 use Rattle.demands.proofs.Rounds.{slotted-session, singled-session, first_step, matches-so, matches-not, adjusts-so, says-up-down, counts-so, selects-so, selects-not, taken-choice}

@@ -30,7 +30,7 @@ use Rattle.rights.specs.declared.Code.TheVariants as code
 use Rattle.rights.specs.declared.Fault.TheVariants as fault
 use Rattle.tag.specs.declared.Session.{Session}
 use Rattle.tag.specs.Session.{off_session}
-use Rattle.tag.specs.Result.{Result, leaves, first_of, lost}
+use Rattle.tag.specs.Result.{Result, leaves, first_of}
 use Rattle.tag.specs.One.{one-outcome}
 use Rattle.states.specs.Commands.{link_of, is_killed, used}
 use Rattle.tag.specs.Power.{power_up_of}

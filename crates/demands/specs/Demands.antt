@@ -23,7 +23,7 @@ use Rattle.tag.specs.declared.Power.TheVariants as power
 use Rattle.tag.specs.declared.Session.{Session}
 use Rattle.tag.specs.declared.Outcome.{Outcome}
 use Rattle.tag.specs.Session.{off_session}
-use Rattle.tag.specs.Result.{Result, leaves, lost}
+use Rattle.tag.specs.Result.{Result, leaves}
 use Rattle.states.specs.Commands.{link_of, used, fallen}
 use Rattle.tag.specs.Table.{live_of, reply_or, moved_to}
 use Rattle.demands.specs.Calls.{Call, power_up, frame, ask, release, register, read, write, Tag, Program, asked, Meets, session_in, image_in, room_in, power_in, words_in, stores_in, code_in, value_in, image_after, torn, Turn, run_image, Idle, answers_in}

@@ -1,7 +1,7 @@
 -- WHEN a call is refused (RULES 5), line by line in the rules' own terms: of any program A. Each line stands under the ones before it: an
 -- image that is good with nothing pending, a port that is free or held as the call needs it, a frame that says an order, a state that
 -- hears it. Assumes nothing.
-use Rattle.std.specs.Prelude.{ℕ, ◌+◌, ◌-◌, ◌*◌, ◌%◌, ◌≤◌, ◌<◌, ◌≡◌, ◌≢◌, ◌⊎◌, Bool, true, false, List, [], length}
+use Rattle.std.specs.Prelude.{ℕ, ◌+◌, ◌*◌, ◌%◌, ◌≤◌, ◌<◌, ◌≡◌, ◌≢◌, ◌⊎◌, Bool, true, false, List, [], length}
 use Rattle.std.specs.Int.Bits.{bit_xor}
 use Rattle.bits.specs.Bits.{bit_at}
 use Rattle.image.specs.declared.Layout.{Layout}

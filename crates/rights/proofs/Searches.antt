@@ -69,37 +69,10 @@ same_block y m i p e = rw (p, e)
 pub found-locked : (y : Layout) (m : List ℕ) (i stop : ℕ) → i < stop → block_open y m i ≡ false → first_locked y m i (stop - i) ≡ found.At i
 found-locked y m i stop h o = let e : stop - i ≡ suc (stop - (i + 1)) = omega arith in rw (e, o)
 
--- a word in an open block is passed over
-pub word-passed : (y : Layout) (m : List ℕ) (i stop : ℕ) → i < stop → block_open y m i ≡ true
-    → first_locked y m i (stop - i) ≡ first_locked y m (i + 1) (stop - (i + 1))
-word-passed y m i stop h o = let e : stop - i ≡ suc (stop - (i + 1)) = omega arith in rw (e, o)
-
 -- how many words a block of size n has, where the search ends before word stop: without a block size all are in block 0
 pub record Wide (n stop w : ℕ) : Type 0 where
   pub sized : 0 < n → w ≡ n
   pub unsized : n ≡ 0 → w ≡ stop
-
--- block b of word i ends behind it
-pub block-ends : (n stop w i b : ℕ) → Wide n stop w → i < stop → b ≡ i / n → i < (b + 1) * w
-block-ends zero stop w i b v h e = rw (e, div-zero i, v.unsized refl) (omega arith)
-block-ends (suc n) stop w i b v h e =
-    let s : w ≡ suc n = v.sized (omega arith) in
-    rw (e, s) (omega (arith, lt-div-mul-add {a = i} {b = suc n} (omega arith)))
-
--- it has at most w words before word i + w
-pub block-near : (n stop w i b : ℕ) → Wide n stop w → i < stop → b ≡ i / n → (b + 1) * w ≤ i + w
-block-near zero stop w i b v h e = rw (e, div-zero i) (omega arith)
-block-near (suc n) stop w i b v h e =
-    let s : w ≡ suc n = v.sized (omega arith) in
-    rw (e, s) (omega (arith, div-mul-le_self i (suc n)))
-
--- its words from word i on
-pub block-words : (n stop w i b k : ℕ) → Wide n stop w → i < stop → b ≡ i / n → i ≤ k → k < (b + 1) * w → b ≡ k / n
-block-words zero stop w i b k v h e l s = rw (e, div-zero i, div-zero k)
-block-words (suc n) stop w i b k v h e l s =
-    let z : w ≡ suc n = v.sized (omega arith) in
-    let t : k < (i / suc n + 1) * suc n = rw (e, z) at s in
-    rw e (sym (div-eq_of_lt-le {k = i / suc n} (suc n) {m = k} (omega (arith, div-mul-le_self i (suc n))) (omega (arith, t))))
 
 -- word e, the first behind it, is the first of block b + 1
 pub block-next : (n stop w i b e : ℕ) → Wide n stop w → i < stop → b ≡ i / n → e ≡ (b + 1) * w → e < stop → b + 1 ≡ e / n

@@ -14,7 +14,7 @@ use Rattle.bits.proofs.Below.{and_right}
 use Rattle.image.specs.declared.Layout.{Layout}
 use Rattle.image.specs.Layout.{layout_of}
 use Rattle.image.specs.Content.{length_of, pc_word}
-use Rattle.image.specs.Check.{check_of, good}
+use Rattle.image.specs.Check.{check_of}
 use Rattle.image.specs.Rules.{Good}
 use Rattle.image.proofs.Answers.{check-good}
 use Rattle.frames.specs.declared.Round.{Round}

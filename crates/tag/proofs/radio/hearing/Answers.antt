@@ -1,10 +1,9 @@
 -- `tag::radio::hearing` meets its contract: a frame by what was heard of it. Assumes nothing.
 use Prim.Native.Nat.{◌≤◌}
-use mathlib.Core.Path.{sym, ap, ◌∙◌}
+use mathlib.Core.Path.{sym, ◌∙◌}
 use native.Mathlib.Omega.{arith}
 use Rattle.bits.specs.Bits.{field_at}
 use Rattle.bits.proofs.Fields.{field-byte}
-use Rattle.frames.specs.Message.{meaning}
 use Rattle.frames.proofs.Codes.{beyond, no_code}
 use Rattle.frames.proofs.Ones.{said-one}
 use Rattle.states.specs.Numbers.{numbers_in}
