@@ -28,9 +28,9 @@ C_PROMISED = {
     "capi/Told": "told sheet_of",
     "capi/Depot": "command_of make_for read_for framed reply_of",
 }
-BEGINS = re.compile(r"(?:abbrev |unfoldable )?pub (?:record |data )?([A-Za-z][\w']*)(?: \(.*\))? : ")
+BEGINS = re.compile(r"(?:abbrev |unfoldable )?pub (?:record |data )?([A-Za-z][\w'-]*)(?: \(.*\))? : ")
 CASE = re.compile(r"\s+([A-Za-z]\w*) :")
-NAME = re.compile(r"(?:\b(\w+)\.)?([A-Za-z][\w']*)")
+NAME = re.compile(r"(?:\b(\w+)\.)?([A-Za-z][\w'-]*)")
 
 
 def lines_of(file):

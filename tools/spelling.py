@@ -23,6 +23,16 @@ OWN = {
     "noFlag": "select_no_flag",
     "p12Stores": "port_stores",
 }
+# and fields that would
+FIELDS = {
+    "crates/demands/specs/Terms.antt": {"new-flags": "first_flags"},
+    "crates/demands/proofs/Terms.antt": {"new-flags": "first_flags"},
+    "crates/demands/specs/Met.antt": {"req-rn": "req_rn_plain"},
+    "crates/demands/specs/Refusals.antt": {"power-up": "at_power_up"},
+    "crates/demands/proofs/Refusals.antt": {"power-up": "at_power_up"},
+    "crates/demands/proofs/Short.antt": {"power-up": "at_power_up"},
+    "crates/capi/specs/Wrong.antt": {"power-stores": "powered_stores"},
+}
 # lemmas that the kit's script took for words of the library, beside siblings with a dash
 DASHED = {"left_in": "left-in", "halves_in": "halves-in", "to_one": "to-one", "code_by": "code-by"}
 
@@ -67,7 +77,19 @@ def mapping():
     return turned
 
 
-def turn(text, turned):
+def turn(path, text, turned):
+    """The text with its words turned; a dash in prose stays."""
+    turned = {**turned, **FIELDS.get(path, {})}
+    prose = {w: n for w, n in turned.items() if "-" not in w}
+    mark = "--" if path.endswith(".antt") else "//"
+    made = []
+    for line in text.split("\n"):
+        code, begun, comment = line.partition(mark)
+        made.append(turned_in(code, turned) + begun + turned_in(comment, prose))
+    return "\n".join(made)
+
+
+def turned_in(text, turned):
     return WORD.sub(lambda m: turned.get(m.group(0), m.group(0)), text)
 
 
@@ -114,7 +136,9 @@ def clashes(turned):
 
 def main():
     turned = mapping()
-    if "--list" in sys.argv:
+    if not turned or sys.argv[1:] not in ([], ["--list"]):
+        sys.exit("spelling.py: no word here is of the older spelling" if not turned else __doc__)
+    if sys.argv[1:]:
         for old, new in sorted(turned.items()):
             print(old, new)
         for path, new, old in clashes(turned):
@@ -122,7 +146,7 @@ def main():
         return
     for path in sources() + sorted(glob.glob("crates/*/src/**/*.rt", recursive=True) + glob.glob("crates/*/must-fail/*.edit")):
         text = open(path).read()
-        made = result_of(path, turn(dashes_back(path, text), turned))
+        made = result_of(path, turn(path, dashes_back(path, text), turned))
         if path.endswith(".rt"):
             made = without_binder(aliases(made))
         if made != text:

@@ -159,7 +159,7 @@ pub record Large : Type 0 where
   pub check : checked.answer ≡ 0
   pub check_user : checked.user.at ≡ 28
   pub power : powered.session.state ≡ 1
-  pub power_stores : powered.stores ≡ 1
+  pub powered_stores : powered.stores ≡ 1
   pub frame : (heard (made 4 0 0x1234 2 13 0)).session ≡ numbers_in (rounds 2 2 13 0)
   pub frame_bad : (heard (of 9 0 0)).number ≡ 5
   pub read : word_at (shown (of 1 1 0)).room 0 ≡ 6
@@ -174,7 +174,7 @@ large =
       check = refl;
       check_user = refl;
       power = refl;
-      power_stores = refl;
+      powered_stores = refl;
       frame = refl;
       frame_bad = refl;
       read = refl;
@@ -198,12 +198,12 @@ check-refuses = other _ 0 2 large.check (λ z. omega (arith, z))
 pub check-hides : checked.user.at ≡ 0 → ⊥
 check-hides = other _ 28 0 large.check_user (λ z. omega (arith, z))
 
--- a power_up that leaves Off, and one that stores nothing
+-- a power-up that leaves Off, and one that stores nothing
 pub power-off : powered.session.state ≡ 0 → ⊥
 power-off = other _ 1 0 large.power (λ z. omega (arith, z))
 
 pub power-lazy : powered.stores ≡ 0 → ⊥
-power-lazy = other _ 1 0 large.power_stores (λ z. omega (arith, z))
+power-lazy = other _ 1 0 large.powered_stores (λ z. omega (arith, z))
 
 -- a NAK that keeps the number, and one to an unknown state
 pub frame-keeps : (heard (made 4 0 0x1234 2 13 0)).session.number ≡ 0x1234 → ⊥

@@ -33,7 +33,7 @@ use Rattle.demands.proofs.Rows.{Refused, Acting, words_of, acts, words-lasting}
 use Rattle.demands.proofs.Rising.{rising}
 use Rattle.tag.specs.Steps.{gives, first_in}
 
--- a power_up of a good image
+-- a power-up of a good image
 module _ (y : Layout) (m : List ℕ) (g : Good y m) where
   stores : List Store
   stores = power_stores (layout_of m) m
@@ -94,7 +94,7 @@ module _ (y : Layout) (m : List ℕ) (g : Good y m) where
       go (yes l) = omega (arith, power-some y m (λ z. omega (arith, l, z)), (g.content 0).count, g.header.pairs_most)
       go (no n) = let z : count_in y m ≡ 0 = omega arith in omega (arith, power-idle y m z)
 
--- a power_up that is cut is a cut of its stores; power-ups from an image from which every cut one leaves a good image
+-- a power-up that is cut is a cut of its stores; power-ups from an image from which every cut one leaves a good image
 pub power-torn : (y : Layout) (m : List ℕ) → Good y m → (f : Cut) → power_ups answer_of (f ∷ []) m ≡ cut_power_up f m
 power-torn y m g f = ap₂ (with_byte f.byte) (power-image y m g (suc f.whole)) (power-image y m g f.whole)
 
@@ -158,7 +158,7 @@ module _ (y : Layout) (t : Tag) (c : Storing) (n enough : ℕ) (h : Completes an
       ap (λ (x : List ℕ). word_at x i) (power-whole y _ (subst (Good y) (sym done) (laws.good d [])) k z ∙ ap power_up done)
       ∙ laws.new d [] (omega (arith, needs, words, whole)) i l
 
-  -- a good image has a whole power_up
+  -- a good image has a whole power-up
   begins : (m : List ℕ) → Good y m → (u : ℕ) → 257 ≤ u → (first_of (power_up_of m u)).number ≡ 0
   begins m k u l =
       let few : length (power_stores (layout_of m) m) ≤ u = subst (λ (z : Layout). length (power_stores z m) ≤ u) k.layout (omega (arith, l, power-needs y m k)) in
@@ -191,7 +191,7 @@ demand-3 y t c n enough h = go (acts y t c enough (check-good t.image y h.idle.s
     go (inl r) = absurd (omega (arith, h.done, r.1))
     go (inr a) = all-cuts y t c n enough h (words_of t c) (words-lasting t c enough) a
 
--- a whole power_up, for any good image
+-- a whole power-up, for any good image
 pub started-so : (y : Layout) (m : List ℕ) → check_of m ≡ good y → Start answer_of y m (after m (power_stores y m))
 started-so y m e = subst (λ (z : Layout). Start answer_of z m (after m (power_stores z m))) (sym k.layout) here
   where

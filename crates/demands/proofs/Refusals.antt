@@ -915,7 +915,7 @@ when-refused =
           subst (λ (z : Layout). Errors answer_of z a r rd q h c) (sym (own-layout y a.image idle)) (error-lines a r rd (own-idle y a.image idle) l q h c);
       locks = λ y a r rd h c idle l.
           subst (λ (z : Layout). Locks answer_of z a r rd h c) (sym (own-layout y a.image idle)) (lock-lines a r rd (own-idle y a.image idle) l h c);
-      power_up = λ m s n u e. start-refused m s n u e;
+      at_power_up = λ m s n u e. start-refused m s n u e;
       no_image = alone-lines;
       reads = λ m at n room. transfer-lines m room (read at n room) (bad_count (layout_of m) at n) (read-listed m at n room);
       writes = λ m at d u. transfer-lines m [] (write at d u) (bad_data (layout_of m) at d) (write-listed m at d u);

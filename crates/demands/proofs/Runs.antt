@@ -319,7 +319,7 @@ advance y m n ss g h p c r =
       steady = record { sound = h; plan = ⊎_elim (λ e. subst (Plan y n) (sym e) (again-plan y m n ss g h p c)) (λ e. subst (Plan y n) (sym e) (no-plan y n)) r };
     }
 
--- a power_up, and a change, each cut anywhere
+-- a power-up, and a change, each cut anywhere
 power-step : (y : Layout) (m : List ℕ) → Steady y m → Lows m → (c : Cut) → Step y m (cut_after c m (power_stores y m))
 power-step y m s h c =
     let f = power-left y m h s.sound c in

@@ -115,7 +115,7 @@ short =
     record {
       room = λ a s other enough h l. tight s a.image a.frame a.bits a.fresh a.room other a.power enough h l;
       power = λ y t c s enough e z l. power y t c s enough e z l;
-      power_up = λ y m v s enough e z l.
+      at_power_up = λ y m v s enough e z l.
           (let g = check-good m y e in power-fails y m g s (subst (λ (k : ℕ). s < k) (power-made y m g enough z) l));
     }
   where

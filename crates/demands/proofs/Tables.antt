@@ -229,7 +229,7 @@ module _ (v : Session) (m : List ℕ) where
       (λ e. refusal tag_of c 1 refl, (λ e. refusal tag_of c 2 refl, (λ e. refusal tag_of c 3 refl, (λ e. refusal tag_of c 5 refl, (λ e. refusal tag_of c 6 refl, (λ e. refusal tag_of c 13 refl, (λ e. lost-answer tag_of c (ltb-true _ _ e), tt)))))))
       (zero-answer tag_of c _ refl (λ q. refl) (refl, refl) refl)
 
--- calls without an image, and power_up
+-- calls without an image, and power-up
 module _ (t : Tag) where
   ask-tabled : Tabled t ask (first_of (ask_of t.session))
   unfolding ask_of

@@ -72,7 +72,7 @@ bad_sum = 0xC3 ∷ 0xC0 ∷ 0xFC ∷ 0x65 ∷ 0xC4 ∷ 0x8D ∷ 0x0C ∷ 0xDF �
 
 pub numbers : List Case
 numbers =
-    -- power_up
+    -- power-up
     p 0 (alone off_session (power_up 1)) (1 ∷ [])
     ∷ p 1 (number off_session short (power_up 1)) (1 ∷ [])
     ∷ p 2 (number off_session header (power_up 1)) (2 ∷ [])

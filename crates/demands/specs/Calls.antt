@@ -76,7 +76,7 @@ answer_of t c = first_of (answers_in t c)
 abbrev pub Meets : Program → Tag → Call → Outcome → List ℕ → List ℕ → Type 0
 Meets A t c o image room = result_of o image room ≡ A t c
 
--- what a call was handed: the session (power_up asks for none), the image and the room ([] where it has none) and s (0 where it stores
+-- what a call was handed: the session (power-up asks for none), the image and the room ([] where it has none) and s (0 where it stores
 -- nothing)
 abbrev pub session_in : Tag → Call → Session
 session_in t (power_up s) = off_session

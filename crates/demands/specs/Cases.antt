@@ -38,7 +38,7 @@ abbrev pub Hold : List Case → Type 0
 Hold [] = Unit {0}
 Hold (c ∷ cs) = (c.computed ≡ c.expected) × Hold cs
 
--- a pointer's value and bytes; stores as numbers, place and value of each; the bytes of every word outside WORK after a whole power_up
+-- a pointer's value and bytes; stores as numbers, place and value of each; the bytes of every word outside WORK after a whole power-up
 abbrev pointed : Read → List ℕ
 pointed (pointer.refused k) = []
 pointed (pointer.whole v e) = v ∷ e ∷ []

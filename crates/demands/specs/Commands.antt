@@ -299,7 +299,7 @@ pub record Transfers (A : Program) (y : Layout) (m : List ℕ) (st : State) (r :
       → 1 ≤ n → n ≤ 255 → at + n ≤ y.user.words → n ≤ pairs_in y
       → asked A (awake st true r) m (call.write at d s) ≡ leaves 0 (awake st true (registered r (record { unwritten = r.register.unwritten; killed = true }))) m []
 
--- power_up of a good image, whatever is pending; n is the image afterwards
+-- power-up of a good image, whatever is pending; n is the image afterwards
 pub record Start (A : Program) (y : Layout) (m n : List ℕ) : Type 0 where
   -- with power enough, and 257 stores always are: Killed if the image says so, else Ready; flags A, SL deasserted, port free, register 0
   pub up : (v : Session) (s : ℕ) → length (power_stores y m) ≤ s

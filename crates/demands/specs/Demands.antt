@@ -44,7 +44,7 @@ abbrev pub AnErrorCode : Code → Type 0
 AnErrorCode code.Nothing = ⊥
 AnErrorCode (code.Error e) = (fault_number e ≡ 0x00) ⊎ (fault_number e ≡ 0x03) ⊎ (fault_number e ≡ 0x04)
 
--- number by number: 1 to 9 and 13 leave everything (of a power_up with an Off session); 10 gives the error reply of its code, leaves the
+-- number by number: 1 to 9 and 13 leave everything (of a power-up with an Off session); 10 gives the error reply of its code, leaves the
 -- image and uses up the cover number; 11 comes where the power lasts for fewer stores than are needed, and leaves the first s of them, Off
 -- and no reply; 12 and 14 leave the image, Arbitrate and no reply; and an answer without a reply changes no byte of the room. Done, it makes its
 -- stores and no other; a value is handed back where the register is read, and is 0 elsewhere. WHEN each number comes: `Refusals`
@@ -132,14 +132,14 @@ pub record Demand1 (A : Program) : Type 0 where
   pub one : (t : Tag) (c : Call) (p q : Outcome) (m n a b : List ℕ) → Meets A t c p m a → Meets A t c q n b → (p ≡ q) × (m ≡ n) × (a ≡ b)
   pub table : (t : Tag) (c : Call) → Tabled t c (A t c)
   pub exact : (t : Tag) (c : Call) → Exact A t c
-  -- no call leaves these bounds; power_up, which asks for no session, comes to them
+  -- no call leaves these bounds; power-up, which asks for no session, comes to them
   pub bounds : (t : Tag) (c : Call) → Reached (session_in t c).power → Reached (A t c).session.power
 
 -- DEMAND 2 stands in `Commands`: command by command.
 
 -- DEMAND 3. From a good image with nothing pending, a frame or SPI write that stores n words, n at least 1: cut it after any number of
--- stores, and cut the power-ups that follow as often as you like. The first whole power_up leaves every word outside WORK as if the
--- command had never come (at most 2n stores made) or as if it had finished (more), each followed by one whole power_up. One byte is whole
+-- stores, and cut the power-ups that follow as often as you like. The first whole power-up leaves every word outside WORK as if the
+-- command had never come (at most 2n stores made) or as if it had finished (more), each followed by one whole power-up. One byte is whole
 -- or absent: a cut may leave one byte of the next store made. The count of the pending words, store 2n + 1, is made where its low byte
 -- is.
 
@@ -168,7 +168,7 @@ pub record Completes (A : Program) (y : Layout) (t : Tag) (c : Storing) (n enoug
   pub done : (A t (lasting c enough)).number ≡ 0
   pub words : length (words_in t (lasting c enough)) ≡ n
 
--- a power_up of the image m with power for s stores; the image after power-ups, each cut
+-- a power-up of the image m with power for s stores; the image after power-ups, each cut
 abbrev pub powered_up : Program → List ℕ → ℕ → Result
 powered_up A m s = asked A off_session m (power_up s)
 
@@ -176,20 +176,20 @@ abbrev pub power_ups : Program → List Cut → List ℕ → List ℕ
 power_ups A [] m = m
 power_ups A (f ∷ fs) m = power_ups A fs (torn A (record { session = off_session; image = m }) (power_up f.whole) f.byte)
 
--- m after a whole power_up is n after one, outside WORK
+-- m after a whole power-up is n after one, outside WORK
 abbrev pub SameOnce : Program → Layout → List ℕ → List ℕ → Type 0
 SameOnce A y m n =
     (j k : ℕ) → (powered_up A m j).number ≡ 0 → (powered_up A n k).number ≡ 0
     → (i : ℕ) → i < y.work.at → word_at (powered_up A m j).image i ≡ word_at (powered_up A n k).image i
 
--- m, which is left where k stores count as made, comes to the old words or to the new ones; no power_up of it that lasts for 257 stores
+-- m, which is left where k stores count as made, comes to the old words or to the new ones; no power-up of it that lasts for 257 stores
 -- (255 words, the count 0 and the CRC-16) is refused or cut
 pub record Unbroken (A : Program) (y : Layout) (t : Tag) (c : Storing) (n enough k : ℕ) (m : List ℕ) : Type 0 where
   pub old : k ≤ 2 * n → SameOnce A y m t.image
   pub new : 2 * n < k → SameOnce A y m (A t (lasting c enough)).image
   pub starts : (u : ℕ) → 257 ≤ u → (powered_up A m u).number ≡ 0
 
--- it makes 3n + 2 stores for its words, which rise; the two images to compare with have a whole power_up; and cut anywhere it is unbroken
+-- it makes 3n + 2 stores for its words, which rise; the two images to compare with have a whole power-up; and cut anywhere it is unbroken
 pub record Survives (A : Program) (y : Layout) (t : Tag) (c : Storing) (n enough : ℕ) : Type 0 where
   pub stores : (A t (lasting c enough)).stores ≡ 3 * n + 2
   pub rising : Rising (words_in t (lasting c enough))

@@ -125,7 +125,7 @@ idling-falls d =
     let z : ◌≡◌ {A = ℕ} 10 0xABCD = sym computed.before ∙ ap (λ (r : Result). word_at r.image 31) (must-write idling d) ∙ computed.word in
     omega arith
 
--- demand 3, at a cut of 1: one store made is at most 2n, but the word is new after the next power_up; torn there, it is neither the old
+-- demand 3, at a cut of 1: one store made is at most 2n, but the word is new after the next power-up; torn there, it is neither the old
 -- one nor the new one
 sham-stores : Completes shamming worked_layout tag p7 1 5
 unfolding frame_of layout_of header_good blocks_in content_good rules_hold worked word_at with_word words_bits bits_of crc_of field_at pointer_at heard_of checksum_right filled packed checked write_code write3

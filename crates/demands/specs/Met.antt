@@ -237,7 +237,7 @@ pub record Met : Type 0 where
   pub idle : Idle worked_layout worked
   -- demand 2: a frame for each command, and no code that applies
   pub rounds : RoundsMet
-  pub req_rn : Comes req_rn 40 0xBEEF order.ReqRn (reply.Number 0x5678) []
+  pub req_rn_plain : Comes req_rn 40 0xBEEF order.ReqRn (reply.Number 0x5678) []
   pub req_rn_cover : Comes req_cover 40 0x1234 order.ReqRn (reply.Number 0x5678) []
   pub read : Comes read_two 58 0x1234 (order.Read (span 3 2 2)) (reply.Words 30 2 0x1234) []
   pub read_right : Readable worked_layout worked false 3 2 2 2
@@ -276,7 +276,7 @@ met =
       one = refl;
       idle = record { sound = refl; nothing = refl };
       rounds = rounds-met;
-      req_rn = (refl, (lit≤ tt, lit≤ tt));
+      req_rn_plain = (refl, (lit≤ tt, lit≤ tt));
       req_rn_cover = (refl, (lit≤ tt, lit≤ tt));
       read = (refl, (lit≤ tt, lit≤ tt));
       read_right = record { within = (lit< tt, lit≤ tt); shows = inl (lit≤ tt, refl); right = λ j l. inl three };

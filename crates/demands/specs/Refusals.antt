@@ -281,7 +281,7 @@ pub record TooLittle (A : Program) : Type 0 where
       (r.number ≡ 0) ⊎ (r.number ≡ 10) → 8 * length a.room < r.reply → answers_to A a s ≡ stays 4 a s
   pub power : (y : Layout) (t : Tag) (c : Storing) (s enough : ℕ) → check_of t.image ≡ good y → let r = A t (lasting c enough) in
       r.number ≡ 0 → s < r.stores → (A t (lasting c s)).number ≡ 11
-  pub power_up : (y : Layout) (m : List ℕ) (v : Session) (s enough : ℕ) → check_of m ≡ good y → let r = asked A v m (power_up enough) in
+  pub at_power_up : (y : Layout) (m : List ℕ) (v : Session) (s enough : ℕ) → check_of m ≡ good y → let r = asked A v m (power_up enough) in
       r.number ≡ 0 → s < r.stores → (asked A v m (power_up s)).number ≡ 11
 
 pub record Refusals (A : Program) : Type 0 where
@@ -292,7 +292,7 @@ pub record Refusals (A : Program) : Type 0 where
   pub errors : (y : Layout) (a : Air) (r : Aside) (q : Round) (secured : Bool) (h : ℕ) (c : Cover) → Idle y a.image → 6 ≤ length a.room
       → Errors A y a r q secured h c
   pub locks : (y : Layout) (a : Air) (r : Aside) (q : Round) (h : ℕ) (c : Cover) → Idle y a.image → 6 ≤ length a.room → Locks A y a r q h c
-  pub power_up : (m : List ℕ) (s : Session) (n u : ℕ) → check_of m ≡ refused n → asked A s m (power_up u) ≡ leaves n off_session m []
+  pub at_power_up : (m : List ℕ) (s : Session) (n u : ℕ) → check_of m ≡ refused n → asked A s m (power_up u) ≡ leaves n off_session m []
   pub no_image : (m : List ℕ) → NoImageRefused A m
   pub reads : (m : List ℕ) (at n : ℕ) (room : List ℕ) → TransferRefused A m (read at n room) room
   pub writes : (m : List ℕ) (at : ℕ) (d : List ℕ) (s : ℕ) → TransferRefused A m (write at d s) []

@@ -83,7 +83,7 @@ pub record Words (y : Layout) (m : List ℕ) : Type 0 where
   pub perma : (b : ℕ) → permalock y m b ≡ bit_in (word_at m (y.perma.at + b / 16)) (15 - b % 16)
   pub count : count_in y m ≡ word_at m y.work.at
   pub pairs : pending y m ≡ below (λ j. let w = y.work.at + 1 + 2 * j in store (word_at m w) (word_at m (w + 1))) (count_in y m)
-  -- power_up: nothing pending, then only the CRC-16; else the pending words in order, the count 0, and the CRC-16
+  -- power-up: nothing pending, then only the CRC-16; else the pending words in order, the count 0, and the CRC-16
   pub settled : count_in y m ≡ 0 → power_stores y m
       ≡ store y.epc.at (crc_of (words_bits m (y.epc.at + 1) (length_of (pc_word y m) + 1))) ∷ []
   pub pends : (s : Store) (ss : List Store) → pending y m ≡ s ∷ ss
@@ -176,7 +176,7 @@ pub record Terms : Type 0 where
   pub off : off_session ≡ record { power = power.Off }
   pub under : (f : Flags) (st : State) (held : Bool) (r : Register) → on f st held r
       ≡ record { power = power.On (record { flags = f; state = st; held = held; register = r }) }
-  pub new_flags : new_flags ≡ record { s0 = false; s1 = false; s2 = false; s3 = false; sl = false }
+  pub first_flags : new_flags ≡ record { s0 = false; s1 = false; s2 = false; s3 = false; sl = false }
   -- a tag that falls back is in Arbitrate, in the round that it was in; with slot 0 but where it was there
   pub fell : (q : Round) (n : ℕ) (k : Link) → (fallen (state.Arbitrate q n) ≡ state.Arbitrate q n) × (fallen (state.Reply q n) ≡ state.Arbitrate q 0)
       × (fallen (state.Acknowledged q n) ≡ state.Arbitrate q 0)

@@ -37,7 +37,7 @@ cut k j = record { whole = k; byte = j }
 abbrev none : ℕ
 none = 156
 
--- after the write cut so; after a power_up, cut so, of an image
+-- after the write cut so; after a power-up, cut so, of an image
 abbrev written : ℕ → ℕ → List ℕ
 written k j = torn answer_of tag (lasting p7 k) j
 
@@ -78,7 +78,7 @@ torn-table =
     ∷ p 9 (written 4 90) (word 0xABCD)
     ∷ p 10 (written 4 91) finished
     ∷ p 11 (answer_of tag (lasting p7 5)).image finished
-    -- of each store of the power_up that follows a cut after the count: the word, the count 0; and of the CRC-16, where another word stood
+    -- of each store of the power-up that follows a cut after the count: the word, the count 0; and of the CRC-16, where another word stood
     ∷ p 12 (written 3 none) announced
     ∷ p 13 (powered 0 62 announced) (word 0xAB0A)
     ∷ p 14 (powered 0 63 announced) (word 0x00CD)
@@ -89,7 +89,7 @@ torn-table =
     -- of a torn word, torn again
     ∷ p 19 (powered 0 62 (word 0x00CD)) (word 0xABCD)
     ∷ p 20 (powered 0 63 (word 0x00CD)) (word 0x00CD)
-    -- what a whole power_up makes of these images outside WORK: before the count's low byte the old words
+    -- what a whole power-up makes of these images outside WORK: before the count's low byte the old words
     ∷ p 21 (outside one) (outside worked)
     ∷ p 22 (outside (two 0xAB00)) (outside worked)
     ∷ p 23 (outside (two 0x00CD)) (outside worked)
@@ -107,7 +107,7 @@ pub torn-cases : Hold torn-table
 unfolding torn-table frame_of power_up_of power_stores layout_of header_good blocks_in content_good rules_hold worked word_at with_word words_bits bits_of crc_of field_at pointer_at heard_of checksum_right filled packed checked write_code write3
 torn-cases = (refl, (refl, (refl, (refl, (refl, (refl, (refl, (refl, (refl, (refl, (refl, (refl, (refl, (refl, (refl, (refl, (refl, (refl, (refl, (refl, (refl, (refl, (refl, (refl, (refl, (refl, (refl, (refl, (refl, (refl, tt))))))))))))))))))))))))))))))
 
--- word 31 after a whole power_up of four of them
+-- word 31 after a whole power-up of four of them
 record Comes (m : List ℕ) (v : ℕ) : Type 0 where
   starts : (first_of (power_up_of m 257)).number ≡ 0
   shows : word_at (first_of (power_up_of m 257)).image 31 ≡ v
@@ -128,7 +128,7 @@ four =
       done = record { starts = refl; shows = refl };
     }
 
--- equal after a whole power_up: not where word 31 is another
+-- equal after a whole power-up: not where word 31 is another
 apart : (m n : List ℕ) (v w : ℕ) → Comes m v → Comes n w → SameOnce answer_of worked_layout m n → v ≡ w
 apart m n v w p q h = sym p.shows ∙ h 257 257 p.starts q.starts 31 (lit< tt) ∙ q.shows
 

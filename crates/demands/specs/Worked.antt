@@ -140,7 +140,7 @@ pub limits : Limits
 unfolding frame_of layout_of header_good blocks_in content_good rules_hold worked word_at with_word words_bits bits_of crc_of field_at pointer_at heard_of checksum_right filled packed checked read_code write_code write15 write16 pc2 pc3 block16 block17
 limits = record { user_15 = refl; user_16 = refl; l_2 = refl; l_3 = refl; words_16 = refl; words_17 = refl }
 
--- wrong answers that the promises rule out: a power_up that makes no store, a frame that is refused where it is done, and one whose
+-- wrong answers that the promises rule out: a power-up that makes no store, a frame that is refused where it is done, and one whose
 -- stores are invented
 pub never-lazy : first_of (power_up_of worked 1) ≡ gives 0 (new_session state.Ready) 0 0 worked [] → ⊥
 never-lazy e =

@@ -39,7 +39,7 @@ port_in s = bit_of (live_of s.power).held
 abbrev unwritten_in : Session → ℕ
 unwritten_in s = bit_of (live_of s.power).register.unwritten
 
--- a power_up that says its power was lost where it lasted
+-- a power-up that says its power was lost where it lasted
 pub power-lost : (first_of (power_up_of worked 1)).number ≡ 11 → ⊥
 power-lost e = let z : ◌≡◌ {A = ℕ} 0 11 = sym (ap (λ (r : Result). r.number) powered.idle) ∙ e in omega arith
 

@@ -1,4 +1,4 @@
--- A change and a power_up from their parts. Assumes nothing.
+-- A change and a power-up from their parts. Assumes nothing.
 use Prim.Native.Nat.{ℕ, zero, suc, ◌+◌, ◌*◌, ◌-◌, ◌≤◌, ◌<◌}
 use mathlib.Core.Path.{◌≡◌, refl, sym, ap, ap₂, ◌∙◌, subst}
 use mathlib.Core.List.{List, [], ◌∷◌, ◌++◌}
@@ -129,7 +129,7 @@ pub finished-other : (w : ℕ) (m : List ℕ) (xs : List Store) (i : ℕ) → i 
 finished-other w m [] i h = refl
 finished-other w m (x ∷ xs) i h = rw after-append (word-with-other (after m (x ∷ xs)) w 0 i (omega arith))
 
--- at whichever store a power_up stands before its CRC, the PC is one that may stand
+-- at whichever store a power-up stands before its CRC, the PC is one that may stand
 pub settling-pc : (y : Layout) (m : List ℕ) → Good y m → (k : ℕ) → length_of (pc_word y (after m (take k (settling y m)))) + 2 ≤ y.epc.words
 settling-pc y m g k = go (dec_le k (length (pending y m)))
   where
@@ -157,7 +157,7 @@ part-crc m i k h =
     ∙ ap (λ (x : ℕ). bits_from m x (16 * k)) z
     ∙ words-bits m i k h)
 
--- how many stores a power_up needs
+-- how many stores a power-up needs
 pub power-idle : (y : Layout) (m : List ℕ) → count_in y m ≡ 0 → length (power_stores y m) ≡ 1
 unfolding power_stores
 power-idle y m z = ap (λ (c : ℕ). length (finished y.work.at (below (pair_at y m) c) ++ (store y.epc.at (epc_crc y (after m (finished y.work.at (below (pair_at y m) c)))) ∷ []))) z

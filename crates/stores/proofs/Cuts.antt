@@ -1,4 +1,4 @@
--- The law of cuts. A change's stores after its count are the first that power_up makes of the image then. A torn pending word is stored again; a torn count is
+-- The law of cuts. A change's stores after its count are the first that power-up makes of the image then. A torn pending word is stored again; a torn count is
 -- one of the two that it was torn between, since a count is one byte; torn pairs mean nothing while the count is 0. Assumes nothing.
 use Prim.Native.Nat.{ℕ, zero, suc, ◌+◌, ◌-◌, ◌*◌, ◌≤◌, ◌<◌}
 use mathlib.Core.Path.{◌≡◌, refl, sym, ap, ap₂, ◌∙◌, subst}
@@ -189,7 +189,7 @@ module _ (y : Layout) (h : List ℕ) (g : Good y h) where
         (run-fine (Stays y h) (joined-stays y h) y.work.at k t done c (omega (arith, done-size, g.header.whole)) (epc-free v, tt) done-fine)
         (λ i l d. run-avoids k t done c i (d, tt) ∙ done-low i l)
 
-    -- a power_up cut anywhere
+    -- a power-up cut anywhere
     power-torn : (k : ℕ) (t : Tear) → Leads y h m (mix_after k t m (power_stores y m))
     unfolding power_stores done
     power-torn =
@@ -220,7 +220,7 @@ module _ (y : Layout) (h : List ℕ) (g : Good y h) where
       leads-trans y h m (cut_power_up c m) (cut_power_ups cs (cut_power_up c m)) f
       (cuts-follow (cut_power_up c m) cs (cut-lows c m (power_stores (layout_of m) m) b) f.0.0)
 
-  -- images that come to the same words are the same after a whole power_up
+  -- images that come to the same words are the same after a whole power-up
   power-alike : (m n : List ℕ) → Sane y h m → Sane y h n → Alike y (settled y m) (settled y n) → (i : ℕ) → i < y.work.at
       → word_at (after m (power_stores y m)) i ≡ word_at (after n (power_stores y n)) i
   power-alike m n s t a i l = power-up-word m s i l ∙ go (eqb i y.epc.at) refl ∙ sym (power-up-word n t i l)
@@ -448,7 +448,7 @@ cuts y m ss bytes g z c =
       stored = sane-good y m (after m ss) g (stored-sane y m ss g z c);
     }
 
--- one cut leaves a good image: of a change, with all of its words pending or none; of a power_up, with all that was or nothing
+-- one cut leaves a good image: of a change, with all of its words pending or none; of a power-up, with all that was or nothing
 pub change-left : (y : Layout) (m : List ℕ) (ss : List Store) → Lows m → Good y m → count_in y m ≡ 0 → Change y m ss → (d : Cut)
     → let n = cut_after d m (change_stores y.work.at ss) in Good y n × ((pending y n ≡ ss) ⊎ (pending y n ≡ []))
 unfolding image
@@ -460,7 +460,7 @@ power-left y m b g d =
     let f = cut_by (Leads y m m) m (power_stores y m) b (power-torn y m g m (good-sane y m g)) d in
     (sane-good y m _ g f.0.0, f.1)
 
--- a whole power_up: a good image; EPC word 0 is the CRC-16, the other words are those of the pending words stored; nothing is pending
+-- a whole power-up: a good image; EPC word 0 is the CRC-16, the other words are those of the pending words stored; nothing is pending
 pub power-good : (y : Layout) (m : List ℕ) → Good y m → Good y (after m (power_stores y m))
 power-good y m g =
     subst (Good y) (run-whole none m (power_stores y m))

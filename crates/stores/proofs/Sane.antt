@@ -132,7 +132,7 @@ sane-good y h n g s =
           (below_all (λ x. may_go y x.at ≡ true) (pair_at y n) (count_in y n) s.goes j (rw (same_count y n hn ss u) at l)));
     }
 
--- an image that the power_up of m may leave: sane, and with the same words once its own pending words are stored
+-- an image that the power-up of m may leave: sane, and with the same words once its own pending words are stored
 abbrev pub Follows : Layout → List ℕ → List ℕ → List ℕ → Type 0
 Follows y h m n = Sane y h n × Alike y (settled y n) (settled y m)
 

@@ -1,4 +1,4 @@
--- What a cut leaves (RULES D3), stated over the stores of a change and of power_up: a byte is stored whole or not at all, a word may be
+-- What a cut leaves (RULES D3), stated over the stores of a change and of power-up: a byte is stored whole or not at all, a word may be
 -- torn. Assumes nothing.
 use Rattle.std.specs.Prelude.{ℕ, suc, ◌+◌, ◌*◌, ◌≤◌, ◌<◌, ◌≡◌, true, cond, List, [], ◌∷◌, eqb, length, get_or, set, take}
 use Rattle.bits.specs.Words.{Bytes, word_at, Store, after, All}
@@ -29,7 +29,7 @@ with_byte j n m = set m j (get_or n j 0)
 abbrev pub cut_after : Cut → List ℕ → List Store → List ℕ
 cut_after c m ss = with_byte c.byte (after m (take (suc c.whole) ss)) (after m (take c.whole ss))
 
--- after a power_up that is cut so; after several; and after a change that is cut so and then those
+-- after a power-up that is cut so; after several; and after a change that is cut so and then those
 abbrev pub cut_power_up : Cut → List ℕ → List ℕ
 cut_power_up c m = cut_after c m (power_stores (layout_of m) m)
 
@@ -45,7 +45,7 @@ cut_image y m ss c cs = cut_power_ups cs (cut_after c m (change_stores y.work.at
 abbrev pub reaches : Layout → Cut → ℕ
 reaches y c = c.whole + cond (eqb c.byte (2 * y.work.at + 1)) 1 0
 
--- from a good image with nothing pending: at most 2n stores made, and the first whole power_up leaves every word outside WORK as if the
+-- from a good image with nothing pending: at most 2n stores made, and the first whole power-up leaves every word outside WORK as if the
 -- change had never come; more, and as if it had finished. Every image on the way is good.
 pub record CutLaws (y : Layout) (m : List ℕ) (ss : List Store) : Type 0 where
   pub old : (c : Cut) (cs : List Cut) → reaches y c ≤ 2 * length ss

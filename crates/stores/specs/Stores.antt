@@ -1,4 +1,4 @@
--- The stores of a change and of power_up (RULES 2.1 to 2.6). Assumes nothing.
+-- The stores of a change and of power-up (RULES 2.1 to 2.6). Assumes nothing.
 use Rattle.std.specs.Prelude.{ℕ, ◌+◌, List, [], ◌∷◌, ◌++◌, length}
 use Rattle.bits.specs.Words.{Store, store, after}
 use Rattle.bits.specs.Bits.{words_bits}
@@ -33,6 +33,6 @@ settling y m = finished y.work.at (pending y m)
 unfoldable pub power_stores : Layout → List ℕ → List Store
 power_stores y m = settling y m ++ (store y.epc.at (epc_crc y (after m (settling y m))) ∷ [])
 
--- the image after a whole power_up
+-- the image after a whole power-up
 abbrev pub power_up : List ℕ → List ℕ
 power_up m = after m (power_stores (layout_of m) m)

@@ -1,4 +1,4 @@
-// Stores under a limited power: staging, applying, and the stores of power_up (RULES 2).
+// Stores under a limited power: staging, applying, and the stores of power-up (RULES 2).
 #![tactic(auto)]
 
 ghost use Rattle.std.specs.Prelude.{◌≡◌, [], ◌∷◌, ℕ, ◌+◌, ◌*◌, ◌^◌, ◌≤◌, ◌<◌, length};
@@ -222,7 +222,7 @@ fn epc_crc(image: &[u8], y: Layout) -> u16
     crc::crc16(&image[2 * pc..], 16 * (l + 1))
 }
 
-// The stores of power_up. Answers the stores made, of at most s.
+// The stores of power-up. Answers the stores made, of at most s.
 pub fn power(image: &mut [u8], y: Layout, s: usize) -> usize
     requires { Good y image.old }
     ensures { Made (power_stores y image.old) s image.old image.new result }

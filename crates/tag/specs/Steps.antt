@@ -69,7 +69,7 @@ first_in y m = cond (eqb (killed_word y m) 0) state.Ready state.Killed
 abbrev pub stopped_at : Answer → ℕ → Outcome
 stopped_at a k = record { answer = a; session = off_session; reply = 0; stores = k; value = 0 }
 
--- a power_up of a good image of the layout y: the first s stores where it needs more, else all of them
+-- a power-up of a good image of the layout y: the first s stores where it needs more, else all of them
 unfoldable pub started : Layout → List ℕ → ℕ → Result
 started y m s =
     let stores = power_stores y m in

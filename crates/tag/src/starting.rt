@@ -40,7 +40,7 @@ fn fresh(state: State) -> Session
     }
 }
 
-// A refused power_up: nothing is changed, and the session is Off.
+// A refused power-up: nothing is changed, and the session is Off.
 pub fn stopped(answer: Answer, stores: usize) -> Outcome
     ensures { result ≡ stopped_at answer stores }
 {
@@ -53,7 +53,7 @@ pub fn stopped(answer: Answer, stores: usize) -> Outcome
     }
 }
 
-// The stores that a power_up needs.
+// The stores that a power-up needs.
 fn needed_up(image: &[u8], y: Layout) -> usize
     ensures { result ≡ length (power_stores y image.now) }
 {
