@@ -15,14 +15,10 @@ returns-then-none_locked c =
 
 pub overflow_sub-writable : goal.overflow_sub-writable
 overflow_sub-writable c =
-    let a = c.args in
-    let l = c.loop-j in
-    let k : (a.at + l.j < c.if-at-j.next) × Known a.y a.image.now (a.at + l.j) c.if-at-j.locked c.if-at-j.next =
     elim c.if-at-j.branch [
-      | then-at-j w ↦ known-new a.y a.image.now (a.at + l.j) (omega arith) (w.locked-is ∙ w.bit-locked.ensures.0 ∙ ap bit_of w.block_locked.ensures) (omega (arith, w.locked-is, w.bit-locked.ensures.1)) (w.next-is ∙ w.next_block-next.ensures.0)
-      | else-at-j w ↦ rw (w.locked-is, w.next-is) (known-old l.invariant.4 w.if-at-j.false)
-    ] in
-    omega (arith, k.1.bit)
+      | then-at-j w ↦ omega (arith, w.bit-locked.ensures.1)
+      | else-at-j w ↦ omega (arith, c.loop-j.invariant.4.bit)
+    ]
 
 pub loop-j-preserved : goal.loop-j-preserved
 loop-j-preserved c =
