@@ -2,6 +2,7 @@ pub mod Words
 pub mod Bits
 pub mod Digits
 pub mod Below
+pub mod All
 pub mod Stores
 pub mod Windows
 pub mod Fields
