@@ -3,7 +3,7 @@ use Prim.Native.Nat.{ℕ, zero, suc, ◌+◌, ◌-◌, ◌*◌, ◌/◌, ◌%◌
 use mathlib.Core.Path.{◌≡◌, refl, sym, ap, ap₂, ◌∙◌}
 use mathlib.Core.Bool.{Bool, true, false, ◌&&◌, and-true, and_assoc}
 use mathlib.Core.List.{List, ◌∷◌}
-use native.Mathlib.Nat.{add-zero, add-suc, add-mul, mul_assoc}
+use native.Mathlib.Nat.{add-zero, add-suc, add-mul, mul_assoc, mul-suc}
 use native.Mathlib.Omega.{arith}
 use lib.Dec.{eqb}
 use lib.Pow.{pow-add, shl_lt, shl-shr, shr-shr, low}
@@ -78,6 +78,29 @@ module _ (a : List ℕ) (i : ℕ) (b : List ℕ) (j k : ℕ) (e : alike a i b j 
       ap (alike a i b j) z
       ∙ alike-append a i b j (k + q) (n - (k + q))
       ∙ ap (λ (t : Bool). t && alike a (i + (k + q)) b (j + (k + q)) (n - (k + q))) (sym (last-alike k q (omega arith) f g) ∙ ne_eqb x y h)
+
+-- runs of w bits, one behind the other, that are equal as fields: all of them hold the first w * m bits, and the last q of n decide the rest
+module _ (a : List ℕ) (i : ℕ) (b : List ℕ) (j : ℕ) where
+  alike_runs : (w m : ℕ) → every (λ k. eqb (field_at a (i + w * k) w) (field_at b (j + w * k) w)) m ≡ alike a i b j (w * m)
+  unfolding alike
+  alike_runs w zero = let z : w * 0 ≡ 0 = omega arith in rw z refl
+  alike_runs w (suc m) =
+      ap₂ ◌&&◌ (alike_runs w m) (sym (alike-fields a (i + w * m) b (j + w * m) w))
+      ∙ sym (alike-append a i b j (w * m) w)
+      ∙ (let z : w * m + w ≡ w * suc m = omega (arith, mul-suc w m) in ap (alike a i b j) z)
+
+  module _ (w m : ℕ) {all : Bool} (e : all ≡ every (λ k. eqb (field_at a (i + w * k) w) (field_at b (j + w * k) w)) m) where
+    pub runs-alike : all ≡ true → {x y : ℕ} (p q : ℕ) → p ≤ w * m → x ≡ field_at a (i + p) q → y ≡ field_at b (j + p) q → eqb x y ≡ alike a i b j (p + q)
+    runs-alike t p q h f g = last-alike a i b j (w * m) (sym (alike_runs w m) ∙ sym e ∙ t) p q h f g
+
+    pub runs-other : all ≡ false → (n : ℕ) → w * m ≤ n → all ≡ alike a i b j n
+    runs-other t n h =
+        let z : w * m + (n - w * m) ≡ n = omega arith in
+        t
+        ∙ sym
+        (ap (alike a i b j) (sym z)
+        ∙ alike-append a i b j (w * m) (n - w * m)
+        ∙ ap (λ (u : Bool). u && alike a (i + w * m) b (j + w * m) (n - w * m)) (sym (alike_runs w m) ∙ sym e ∙ t))
 
 -- n bits from bit `at` on, in the eight bytes that hold the first of them: the s bits before them are shifted out
 lifted : (u v c s : ℕ) → v < 2 ^ c → (u * 2 ^ c + v) * 2 ^ s % 2 ^ (c + s) ≡ v * 2 ^ s

@@ -88,7 +88,7 @@ field-append m i a b =
 pub field-first : (m : List ℕ) (i a b : ℕ) → field_at m i (a + b) / 2 ^ b ≡ field_at m i a
 field-first m i a b = ap (λ (x : ℕ). x / 2 ^ b) (field-append m i a b) ∙ high (field_at m i a) b (field_lt m (i + a) b)
 
--- bytes are fields: one, its first n bits, one more, and four
+-- bytes are fields: one, its first n bits, one more, and eight
 module _ (m : List ℕ) (known : (i : ℕ) → get_or m i 0 < 256) where
   pub field-byte : (k : ℕ) → field_at m (8 * k) 8 ≡ get_or m k 0
   unfolding field_at
@@ -106,8 +106,10 @@ module _ (m : List ℕ) (known : (i : ℕ) → get_or m i 0 < 256) where
       let f : 8 * k + 8 * j ≡ 8 * (k + j) = omega arith in
       ap (field_at m (8 * k)) e ∙ field-append m (8 * k) (8 * j) 8 ∙ ap (λ (x : ℕ). field_at m (8 * k) (8 * j) * 256 + x) (ap (λ (x : ℕ). field_at m x 8) f ∙ field-byte (k + j))
 
-  pub four_bytes : (i : ℕ) → field_at m (8 * i) 32 ≡ ((get_or m i 0 * 256 + get_or m (i + 1) 0) * 256 + get_or m (i + 2) 0) * 256 + get_or m (i + 3) 0
-  four_bytes i = rw (byte_more i 3, byte_more i 2, byte_more i 1, field-byte i)
+  pub eight_bytes : (i : ℕ) → field_at m (8 * i) 64
+      ≡ ((((((get_or m i 0 * 256 + get_or m (i + 1) 0) * 256 + get_or m (i + 2) 0) * 256 + get_or m (i + 3) 0) * 256 + get_or m (i + 4) 0) * 256 + get_or m (i + 5) 0) * 256
+      + get_or m (i + 6) 0) * 256 + get_or m (i + 7) 0
+  eight_bytes i = rw (byte_more i 7, byte_more i 6, byte_more i 5, byte_more i 4, byte_more i 3, byte_more i 2, byte_more i 1, field-byte i)
 
   -- four words are a field
   pub words-four : (from j : ℕ) → words_bits m from (j + 4) ≡ words_bits m from j ++ bits_of 64 (field_at m (16 * (from + j)) 64)
@@ -118,11 +120,6 @@ module _ (m : List ℕ) (known : (i : ℕ) → get_or m i 0 < 256) where
       ∙ ap (bits_from m (16 * from)) e
       ∙ bits-append m (16 * from) (16 * j) 64
       ∙ ap₂ ◌++◌ (words-bits m from j known) (ap (λ (x : ℕ). bits_from m x 64) f ∙ sym (field-bits m (16 * (from + j)) 64))
-
-pub eight-bytes : (m : List ℕ) (i : ℕ) → field_at m (8 * i) 64 ≡ field_at m (8 * i) 32 * 2 ^ 32 + field_at m (8 * (i + 4)) 32
-eight-bytes m i =
-    let e : 8 * i + 32 ≡ 8 * (i + 4) = omega arith in
-    field-append m (8 * i) 32 32 ∙ ap (λ (x : ℕ). field_at m (8 * i) 32 * 2 ^ 32 + field_at m x 32) e
 
 -- a bit of `or`
 or-bit : (a b t : ℕ) → bit_or a b / 2 ^ t % 2 ≡ bit_or (a / 2 ^ t % 2) (b / 2 ^ t % 2)

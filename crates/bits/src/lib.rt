@@ -10,31 +10,24 @@ ghost use Rattle.bits.specs.Steps.{window_at};
 pub fn byte(bytes: &[u8], i: usize) -> u8
     ensures { result ≡ get_or bytes.now i 0 }
 {
-    if i < bytes.len() { bytes[i] } else { 0 }
+    bytes.get(i).copied().unwrap_or(0)
 }
 
 // Stores b as byte i.
 pub fn store_byte(bytes: &mut [u8], i: usize, b: u8)
     ensures { bytes.new ≡ set bytes.old i b }
 {
+    // By index: what a slice holds after `get_mut` no proof knows.
     if i < bytes.len() {
         bytes[i] = b;
     }
-}
-
-fn wide(b: u8) -> u16
-    ensures { (result ≡ b) × (result < 256) }
-{
-    b as u16
 }
 
 // Whatever is lent consists of bytes, and so does every image that a call is handed (RULES D3).
 pub fn lent(bytes: &[u8])
     ensures { Bytes bytes.now }
 {
-    if 0 < bytes.len() {
-        wide(bytes[0]);
-    }
+    let _first = bytes.first();
 }
 
 // Word i of bytes that have it.
@@ -42,7 +35,7 @@ pub fn word_in(bytes: &[u8], i: usize) -> u16
     requires { 2 * i + 1 < length bytes.now }
     ensures { result ≡ word_at bytes.now i }
 {
-    wide(bytes[2 * i]) * 256 + wide(bytes[2 * i + 1])
+    u16::from_be_bytes([bytes[2 * i], bytes[2 * i + 1]])
 }
 
 // Word i; one test does for both bytes where they are there.
@@ -53,7 +46,7 @@ pub fn word(bytes: &[u8], i: usize) -> u16
     if 2 * i + 1 < bytes.len() {
         return word_in(bytes, i);
     }
-    wide(byte(bytes, 2 * i)) * 256 + wide(byte(bytes, 2 * i + 1))
+    u16::from_be_bytes([byte(bytes, 2 * i), byte(bytes, 2 * i + 1)])
 }
 
 // Stores v as word i of bytes that have it.
@@ -61,8 +54,9 @@ pub fn store_word_in(bytes: &mut [u8], i: usize, v: u16)
     requires { 2 * i + 1 < length bytes.old }
     ensures { bytes.new ≡ with_word bytes.old i v }
 {
-    bytes[2 * i] = (v / 256) as u8;
-    bytes[2 * i + 1] = (v % 256) as u8;
+    let [high, low] = v.to_be_bytes();
+    bytes[2 * i] = high;
+    bytes[2 * i + 1] = low;
 }
 
 // Stores v as word i.
@@ -74,21 +68,16 @@ pub fn store_word(bytes: &mut [u8], i: usize, v: u16)
         store_word_in(bytes, i, v);
         return;
     }
-    store_byte(bytes, 2 * i, (v / 256) as u8);
-    store_byte(bytes, 2 * i + 1, (v % 256) as u8);
+    let [high, low] = v.to_be_bytes();
+    store_byte(bytes, 2 * i, high);
+    store_byte(bytes, 2 * i + 1, low);
 }
 
 // Bit i, 0 or 1.
 pub fn bit(bytes: &[u8], i: usize) -> u16
     ensures { (result ≡ bit_at bytes.now i) × (result < 2) }
 {
-    (wide(byte(bytes, i / 8)) >> (7 - i % 8)) % 2
-}
-
-fn wider(b: u8) -> u32
-    ensures { (result ≡ b) × (result < 256) }
-{
-    b as u32
+    u16::from(byte(bytes, i / 8) >> (7 - i % 8) & 1)
 }
 
 // The three bytes from byte k on, as one number.
@@ -97,32 +86,26 @@ pub fn window(bytes: &[u8], k: usize) -> u32
     ensures { result ≡ window_at bytes.now k }
 {
     if k + 2 < bytes.len() {
-        return (wider(bytes[k]) * 256 + wider(bytes[k + 1])) * 256 + wider(bytes[k + 2]);
+        return u32::from_be_bytes([0, bytes[k], bytes[k + 1], bytes[k + 2]]);
     }
-    (wider(byte(bytes, k)) * 256 + wider(byte(bytes, k + 1))) * 256 + wider(byte(bytes, k + 2))
+    u32::from_be_bytes([0, byte(bytes, k), byte(bytes, k + 1), byte(bytes, k + 2)])
 }
 
-fn widest(b: u8) -> u64
-    ensures { (result ≡ b) × (result < 256) }
-{
-    b as u64
-}
-
-// The four bytes from byte i on, as one number.
-fn four_bytes(bytes: &[u8], i: usize) -> u64
-    requires { i + 3 < length bytes.now }
-    ensures { (result ≡ field_at bytes.now (8 * i) 32) × (result < 2 ^ 32) }
-{
-    ((widest(bytes[i]) * 256 + widest(bytes[i + 1])) * 256 + widest(bytes[i + 2])) * 256
-        + widest(bytes[i + 3])
-}
-
-// Eight.
+// The eight bytes from byte i on, as one number.
 pub fn eight_bytes(bytes: &[u8], i: usize) -> u64
     requires { i + 7 < length bytes.now }
     ensures { result ≡ field_at bytes.now (8 * i) 64 }
 {
-    four_bytes(bytes, i) * 0x1_0000_0000 + four_bytes(bytes, i + 4)
+    u64::from_be_bytes([
+        bytes[i],
+        bytes[i + 1],
+        bytes[i + 2],
+        bytes[i + 3],
+        bytes[i + 4],
+        bytes[i + 5],
+        bytes[i + 6],
+        bytes[i + 7],
+    ])
 }
 
 // Words i to i + 3 as one number.
@@ -149,26 +132,14 @@ fn wide_field(bytes: &[u8], at: usize, n: usize) -> u64
     eight_bytes(bytes, at / 8) << (at % 8) >> (64 - n)
 }
 
-fn at_most_16(n: usize) -> usize
-    ensures { (result ≤ n) × (result ≤ 16) × (0 < n → 0 < result) }
-{
-    if n < 16 { n } else { 16 }
-}
-
-// Whether the n bits of a from bit i on are those of b from bit j on: 16 at a time, wherever they lie.
+// Whether the n bits of a from bit i on are those of b from bit j on: 16 at a time and then the rest, wherever they lie.
 fn alike_slowly(a: &[u8], i: usize, b: &[u8], j: usize, n: usize) -> bool
     requires { (i < 2 ^ 32) × (j < 2 ^ 32) × (n < 256) }
     ensures { result ≡ alike_of a.now i b.now j n }
 {
-    let mut k: usize = 0;
-    while k < n {
-        let w = at_most_16(n - k);
-        if field(a, i + k, w) != field(b, j + k, w) {
-            return false;
-        }
-        k += w;
-    }
-    true
+    let most = n / 16 * 16;
+    (0..n / 16).all(|k| field(a, i + 16 * k, 16) == field(b, j + 16 * k, 16))
+        && field(a, i + most, n - most) == field(b, j + most, n - most)
 }
 
 // The same for up to 56 bits: at once, unless they lie near the end.
@@ -193,14 +164,8 @@ pub fn alike(a: &[u8], i: usize, b: &[u8], j: usize, n: usize) -> bool
     if a.len() <= (i + n) / 8 || b.len() <= (j + n) / 8 {
         return alike_slowly(a, i, b, j, n);
     }
-    let mut k: usize = 0;
-    while k + 56 < n {
-        if wide_field(a, i + k, 56) != wide_field(b, j + k, 56) {
-            return false;
-        }
-        k += 56;
-    }
-    wide_field(a, i + n - 56, 56) == wide_field(b, j + n - 56, 56)
+    (0..n / 56).all(|k| wide_field(a, i + 56 * k, 56) == wide_field(b, j + 56 * k, 56))
+        && wide_field(a, i + n - 56, 56) == wide_field(b, j + n - 56, 56)
 }
 
 // The last 16 of the first n bits. They lie in the last three bytes of these bits.
@@ -209,7 +174,7 @@ pub fn last_word(bytes: &[u8], n: usize) -> u16
     ensures { result ≡ field_at bytes.now (n - 16) 16 }
 {
     let k = (n - 1) / 8;
-    let v = (wider(bytes[k - 2]) * 256 + wider(bytes[k - 1])) * 256 + wider(bytes[k]);
+    let v = u32::from_be_bytes([0, bytes[k - 2], bytes[k - 1], bytes[k]]);
     ((v >> (7 - (n - 1) % 8)) % 65536) as u16
 }
 

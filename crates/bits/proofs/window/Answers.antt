@@ -1,11 +1,13 @@
 -- `bits::window` meets its contract: three bytes, the highest first. Assumes nothing.
+use Rattle.std.proofs.Common.{rules}
+use native.Mathlib.Omega.{arith}
 use Rattle.bits.specs.Steps.{window_at}
 use Rattle.bits.proofs.window.Goals as goal
 
 pub returns-then-k-bytes : goal.returns-then-k-bytes
 unfolding window_at
-returns-then-k-bytes c = rw (c.wider-then-k-bytes-2.ensures.0, c.wider-then-k-bytes.ensures.0, c.wider.ensures.0)
+returns-then-k-bytes c = search rules
 
 pub returns : goal.returns
 unfolding window_at
-returns c = rw (c.wider-4.ensures.0, c.byte-3.ensures, c.wider-3.ensures.0, c.byte-2.ensures, c.wider-2.ensures.0, c.byte.ensures)
+returns c = omega (arith, c.from_be_bytes-2.ensures, c.byte.ensures, c.byte-2.ensures, c.byte-3.ensures)

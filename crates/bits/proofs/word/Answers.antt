@@ -1,7 +1,8 @@
 -- `bits::word` meets its contract: two bytes, the higher first. Assumes nothing.
+use native.Mathlib.Omega.{arith}
 use Rattle.bits.specs.Words.{word_at}
 use Rattle.bits.proofs.word.Goals as goal
 
 pub returns : goal.returns
 unfolding word_at
-returns c = rw (c.wide-2.ensures.0, c.byte-2.ensures, c.wide.ensures.0, c.byte.ensures)
+returns c = omega (arith, c.from_be_bytes.ensures, c.byte.ensures, c.byte-2.ensures)
