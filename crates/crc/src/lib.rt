@@ -6,7 +6,7 @@ ghost use Rattle.bits.specs.Bits.{bits_from, bits_of, field_at};
 ghost use Rattle.crc.specs.Crc.{crc_of, run, shift};
 ghost use Rattle.crc.specs.Crc5.{crc5_of};
 
-// One shift of the register r by the bit b.
+// One shift of the register r by the bit b. Each width below has a formula of its own for the same run, so no function serves them all.
 pub fn step(r: u16, b: u16) -> u16
     requires { b < 2 }
     ensures { result ≡ shift r b }
@@ -14,17 +14,11 @@ pub fn step(r: u16, b: u16) -> u16
     r << 1 ^ (r >> 15 ^ b) * 0x1021
 }
 
-fn wide(x: u8) -> u16
-    ensures { (result ≡ x) × (result < 256) }
-{
-    x as u16
-}
-
 // Eight shifts at once, by the bits of b: t is the quotient of what leaves the register by the generator.
 pub fn step8(r: u16, b: u8) -> u16
     ensures { result ≡ run r (bits_of 8 b) }
 {
-    let x = r >> 8 ^ wide(b);
+    let x = r >> 8 ^ u16::from(b);
     let t = x ^ x >> 4;
     r << 8 ^ t << 12 ^ t << 5 ^ t
 }
@@ -37,12 +31,6 @@ pub fn step16(r: u16, w: u16) -> u16
     let t = x ^ x >> 4;
     let q = t ^ t >> 8 ^ x >> 11;
     q << 12 ^ q << 5 ^ q
-}
-
-fn wider(x: u16) -> u64
-    ensures { (result ≡ x) × (result < 65536) }
-{
-    x as u64
 }
 
 // Sixty-four of the register 0, by the bits of x: the quotient q is made by four sparse factors.
@@ -60,13 +48,7 @@ fn rest(x: u64) -> u16
 pub fn step64(r: u16, w: u64) -> u16
     ensures { result ≡ run r (bits_of 64 w) }
 {
-    rest(wider(r) << 48 ^ w)
-}
-
-fn widest(b: u8) -> u64
-    ensures { (result ≡ b) × (result < 256) }
-{
-    b as u64
+    rest(u64::from(r) << 48 ^ w)
 }
 
 // The number that the k bits from byte `at` on denote.
@@ -78,15 +60,13 @@ fn tail(bytes: &[u8], at: usize, k: usize) -> u64
         return bits::eight_bytes(bytes, at) >> (64 - k);
     }
     let mut v: u64 = 0;
-    let mut i: usize = 0;
-    while i < k / 8 {
-        v = v * 256 + widest(bytes[at + i]);
-        i += 1;
+    for i in 0..k / 8 {
+        v = v * 256 + u64::from(bytes[at + i]);
     }
     if k % 8 == 0 {
         return v;
     }
-    (v << (k % 8)) + (widest(bytes[at + i]) >> (8 - k % 8))
+    (v << (k % 8)) + u64::from(bytes[at + k / 8] >> (8 - k % 8))
 }
 
 // The register after n times eight bytes.
@@ -95,10 +75,8 @@ fn eights(bytes: &[u8], n: usize) -> u16
     ensures { result ≡ run 0xFFFF (bits_from bytes.now 0 (64 * n)) }
 {
     let mut r: u16 = 0xFFFF;
-    let mut k: usize = 0;
-    while k < n {
+    for k in 0..n {
         r = step64(r, bits::eight_bytes(bytes, 8 * k));
-        k += 1;
     }
     r
 }
@@ -115,17 +93,15 @@ pub fn crc16(bytes: &[u8], n: usize) -> u16
     let mut r = eights(bytes, n / 64);
     let k = n % 64;
     if k >= 16 {
-        return !rest(wider(r) << (k - 16) ^ tail(bytes, n / 64 * 8, k));
+        return !rest(u64::from(r) << (k - 16) ^ tail(bytes, n / 64 * 8, k));
     }
-    let mut i = n / 64 * 64;
-    while i < n {
+    for i in n / 64 * 64..n {
         r = step(r, bits::bit(bytes, i));
-        i += 1;
     }
     !r
 }
 
-// The CRC-16 of the first n words.
+// The CRC-16 of the first n words, whose bits may be more than a usize counts.
 pub fn crc16_words(bytes: &[u8], n: usize) -> u16
     requires { 2 * n ≤ length bytes.now }
     ensures { result ≡ crc_of (bits_from bytes.now 0 (16 * n)) }
@@ -135,21 +111,14 @@ pub fn crc16_words(bytes: &[u8], n: usize) -> u16
     if k == 0 {
         return !r;
     }
-    !rest(wider(r) << (k - 16) ^ tail(bytes, n / 4 * 8, k))
-}
-
-// The low 17 bits.
-fn from_window(x: u32) -> u64
-    ensures { (result ≡ x % 2 ^ 17) × (result < 2 ^ 17) }
-{
-    (x % 0x2_0000) as u64
+    !rest(u64::from(r) << (k - 16) ^ tail(bytes, n / 4 * 8, k))
 }
 
 // The CRC-5 of the first 17 bits, with 0 for those past the end. The preset stands at their front; q is the quotient, made by four sparse factors.
 pub fn crc5(bytes: &[u8]) -> u16
     ensures { result ≡ crc5_of (bits_from bytes.now 0 17) }
 {
-    let u = from_window(bits::window(bytes, 0) >> 7) ^ 0x9000;
+    let u = u64::from((bits::window(bytes, 0) >> 7) % 0x2_0000) ^ 0x9000;
     let a = u ^ u >> 2 ^ u >> 5;
     let b = a ^ a >> 4 ^ a >> 10;
     let c = b ^ b >> 8;

@@ -20,5 +20,5 @@ returns c =
     let a = c.args in
     let e : 64 * (a.n / 4) ≡ 8 * (a.n / 4 * 8) = omega arith in
     ap (λ (x : ℕ). 65535 - x)
-    (tail-turn a.bytes.now (16 * a.n) (a.n / 4 * 8) (a.n % 4 * 16) 0xFFFF _ (omega arith) (omega arith) (omega arith) (omega arith) c.wider.ensures.0 c.tail.ensures c.rest.ensures
+    (tail-turn a.bytes.now (16 * a.n) (a.n / 4 * 8) (a.n % 4 * 16) 0xFFFF _ (omega arith) (omega arith) (omega arith) (omega arith) c.from.ensures c.tail.ensures c.rest.ensures
     (c.eights-r.ensures ∙ ap (λ (x : ℕ). run 0xFFFF (bits_from a.bytes.now 0 x)) e))

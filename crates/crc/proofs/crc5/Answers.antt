@@ -43,8 +43,8 @@ unfolding code quotient twice crc5_of
 returns c =
     let m = c.args.bytes.now in
     let bytes : (j : ℕ) → get_or m j 0 < 256 = λ j. omega (arith, c.type_inv.bytes j) in
-    let u : c.from_window-u.result ≡ field_at m 0 17 =
-    c.from_window-u.ensures.0 ∙ ap (λ (x : ℕ). x / 2 ^ 7 % 2 ^ 17) c.window.ensures ∙ sym (through-window m 0 0 17 7 bytes refl (omega arith)) in
+    let u : c.from-u.result ≡ field_at m 0 17 =
+    c.from-u.ensures ∙ ap (λ (x : ℕ). x / 2 ^ 7 % 2 ^ 17) c.window.ensures ∙ sym (through-window m 0 0 17 7 bytes refl (omega arith)) in
     ap (code 9) u
     ∙ sym (steps of5 17 code linear tested 9 (field_at m 0 17) (omega arith) (field_lt m 0 17))
     ∙ ap (run5 9) (field-bits m 0 17)

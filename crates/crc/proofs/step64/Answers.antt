@@ -12,5 +12,5 @@ pub returns : goal.returns
 returns c =
     let a = c.args in
     c.rest.ensures
-    ∙ ap (λ (x : ℕ). run 0 (bits_of 64 (bit_xor (x * 2 ^ 48 % 2 ^ 64) a.w))) c.wider.ensures.0
+    ∙ ap (λ (x : ℕ). run 0 (bits_of 64 (bit_xor (x * 2 ^ 48 % 2 ^ 64) a.w))) c.from.ensures
     ∙ sym (at_once 64 a.r a.w (omega arith) (omega arith) (omega arith) (omega arith))

@@ -2,7 +2,6 @@
 use Prim.Native.Nat.{ℕ, ◌*◌, ◌/◌, ◌%◌, ◌^◌}
 use mathlib.Core.Path.{◌≡◌, refl, sym, ap, ◌∙◌}
 use native.Mathlib.Omega.{arith}
-use borrow.Author.Rules.{rules}
 use mathlib.Core.Bool.{true}
 use lib.Bits.{bit_xor}
 use Rattle.bits.specs.Bits.{bits_of}
@@ -23,9 +22,6 @@ linear =
     let t = then (both (then (right 8) (right 8)) (cut 8)) (both same (right 4)) in
     both (both (both (then (right 8) (left 16 8)) (then t (left 16 12))) (then t (left 16 5))) t
 
-pub wide-requires : goal.wide-requires
-wide-requires c = search rules
-
 tested : every (test of16 8 code) 24 ≡ true
 unfolding code tail shifts test bits_of
 tested = refl
@@ -33,4 +29,4 @@ tested = refl
 pub returns : goal.returns
 unfolding code tail
 returns c =
-    ap (code c.args.r) c.wide.ensures.0 ∙ sym (steps of16 8 code linear tested c.args.r c.args.b (omega arith) (omega arith))
+    ap (code c.args.r) c.from.ensures ∙ sym (steps of16 8 code linear tested c.args.r c.args.b (omega arith) (omega arith))

@@ -10,12 +10,13 @@ use Rattle.bits.proofs.Fields.{field_lt, field-small, field-append, field-first,
 use Rattle.crc.proofs.tail.Goals as goal
 
 -- whole bytes, and the first bits of the next one
-last : (m : List ℕ) → ((i : ℕ) → get_or m i 0 < 256) → (at k i : ℕ) {v b : ℕ} → k < 64 → i ≡ k / 8 → v ≡ field_at m (8 * at) (8 * i) → b ≡ get_or m (at + i) 0
-    → v * 2 ^ (k % 8) % 2 ^ 64 + b / 2 ^ (8 - k % 8) ≡ field_at m (8 * at) k
+last : (m : List ℕ) → ((i : ℕ) → get_or m i 0 < 256) → (at k i : ℕ) {v b : ℕ} → k < 64 → i ≡ k / 8 → v ≡ field_at m (8 * at) (8 * i) → b ≡ get_or m (at + k / 8) 0 / 2 ^ (8 - k % 8)
+    → v * 2 ^ (k % 8) % 2 ^ 64 + b ≡ field_at m (8 * at) k
 last m known at k i h e p q =
     let y : 8 * i + k % 8 ≡ k = omega arith in
     let z : 8 * (at + i) ≡ 8 * at + 8 * i = omega arith in
-    rw (p, q, shl_exact (8 * i) (k % 8) 64 (field_lt m (8 * at) (8 * i)) (omega arith), ← byte-first m known (at + i) (k % 8) (omega arith), z)
+    let w : at + k / 8 ≡ at + i = omega arith in
+    rw (p, q, w, shl_exact (8 * i) (k % 8) 64 (field_lt m (8 * at) (8 * i)) (omega arith), ← byte-first m known (at + i) (k % 8) (omega arith), z)
     (sym (field-append m (8 * at) (8 * i) (k % 8)) ∙ ap (field_at m (8 * at)) y)
 
 pub returns-then-at-bytes : goal.returns-then-at-bytes
@@ -26,7 +27,7 @@ returns-then-at-bytes c =
 
 pub loop-i-init : goal.loop-i-init
 unfolding field_at
-loop-i-init c = (omega arith, refl)
+loop-i-init c = refl
 
 pub overflow_mul-v : goal.overflow_mul-v
 overflow_mul-v c =
@@ -45,21 +46,21 @@ loop-i-preserved c =
     let a = c.args in
     let l = c.loop-i in
     let known : (i : ℕ) → get_or a.bytes.now i 0 < 256 = λ i. omega (arith, c.type_inv.bytes i) in
-    (omega arith, rw (l.invariant.1, c.widest.ensures.0) (sym (byte_more a.bytes.now known a.at l.i)))
+    rw (l.invariant, c.from.ensures) (sym (byte_more a.bytes.now known a.at l.i))
 
 pub returns-then-k-eq0 : goal.returns-then-k-eq0
 returns-then-k-eq0 c =
     let a = c.args in
     let l = c.loop-i in
     let e : 8 * l.i ≡ a.k = omega arith in
-    l.invariant.1 ∙ ap (field_at a.bytes.now (8 * a.at)) e
+    l.invariant ∙ ap (field_at a.bytes.now (8 * a.at)) e
 
 pub returns : goal.returns
 returns c =
     let a = c.args in
     let l = c.loop-i in
     let known : (i : ℕ) → get_or a.bytes.now i 0 < 256 = λ i. omega (arith, c.type_inv.bytes i) in
-    last a.bytes.now known a.at a.k l.i (omega arith) (omega arith) l.invariant.1 c.widest-2.ensures.0
+    last a.bytes.now known a.at a.k l.i (omega arith) (omega arith) l.invariant c.from-2.ensures
 
 pub overflow_add-result : goal.overflow_add-result
 overflow_add-result c =
