@@ -1,3 +1,4 @@
 pub mod Laws
 pub mod Packing
+pub mod Bytes
 pub mod Pen

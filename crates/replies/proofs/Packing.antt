@@ -7,8 +7,8 @@ use native.Mathlib.Omega.{arith}
 use lib.ListN.{length, get_or, drop, set, replicate, length-append, length-replicate, length-drop, drop_of_length-le, replicate-append-replicate}
 use lib.Seq.{drop-append-le}
 use lib.Pow.{mod-pow-add, shr-shr}
-use Rattle.bits.specs.Bits.{bits_of, bits_from, words_bits}
-use Rattle.bits.proofs.Bits.{length-bits, bits-split, bits-append, byte-tail, words-bits}
+use Rattle.bits.specs.Bits.{bits_of, bits_from}
+use Rattle.bits.proofs.Bits.{length-bits, bits-split, bits-append, byte-tail}
 use Rattle.replies.specs.Pack.{filled, packed}
 use Rattle.replies.specs.Steps.{with_bytes}
 use Rattle.replies.proofs.Laws.{packed_none}
@@ -79,12 +79,6 @@ byte-copied m from k room₀ h e =
     let low : b % 256 ≡ b = omega (arith, h) in
     rw (e, n, bits-append m (16 * from) (8 * k) 8, byte-tail m (2 * from + k) 8 (16 * from + 8 * k) (omega arith) (omega arith))
     (sym (next-byte k xs b room₀ (length_from m (16 * from) (8 * k)) ∙ ap (set (packed xs room₀) k) low))
-
--- words are the bits that stand there, if their bytes are bytes
-pub words-from : (m : List ℕ) (from count : ℕ) → (0 < 2 * count → (i : ℕ) → get_or m i 0 < 256) → bits_from m (16 * from) (16 * count) ≡ words_bits m from count
-unfolding words_bits
-words-from m from zero h = refl
-words-from m from (suc count) h = words-bits m from (suc count) (h (omega arith))
 
 -- one byte of 0 more
 pub byte-zeroed : (k : ℕ) (first : List ℕ) {room : List ℕ} → room ≡ packed (replicate (8 * k) 0) first → set room k 0 ≡ packed (replicate (8 * (k + 1)) 0) first

@@ -11,4 +11,4 @@ pub returns : goal.returns
 returns c =
     let a = c.args in
     let seen = c.step8-register.ensures ∙ ap (λ (x : ℕ). run x (bits_of 8 a.code)) c.step.ensures in
-    rw (c.put_end.ensures, c.from_byte.ensures.0) (all_told (flagged a.code a.room.now (omega arith) seen) (omega arith))
+    rw (c.put_end.ensures, c.from.ensures) (all_told (flagged a.code a.room.now (omega arith) seen) (omega arith))

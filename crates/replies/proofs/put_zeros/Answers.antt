@@ -1,13 +1,13 @@
--- `replies::put_zeros` meets its contract. Invariant: so many bytes of 0 are packed. Assumes nothing.
-use mathlib.Core.Path.{refl, sym}
+-- `replies::put_zeros` meets its contract: as many bytes of 0. Assumes nothing.
+use Prim.Native.Nat.{ℕ, ◌*◌}
+use mathlib.Core.Path.{ap, ◌∙◌}
 use native.Mathlib.Omega.{arith}
-use lib.ListN.{length-set}
-use Rattle.replies.proofs.Laws.{packed_none}
-use Rattle.replies.proofs.Packing.{byte-zeroed}
+use lib.ListN.{replicate}
+use Rattle.std.proofs.lemmas.List.{length-take-le}
+use Rattle.replies.proofs.Bytes.{zeroed}
 use Rattle.replies.proofs.put_zeros.Goals as goal
 
-pub loop-k-init : goal.loop-k-init
-loop-k-init c = (omega arith, refl, sym (packed_none c.args.room.now))
-
-pub loop-k-preserved : goal.loop-k-preserved
-loop-k-preserved c = (omega arith, simp length-set c.loop-k.invariant.1, byte-zeroed _ _ c.loop-k.invariant.2)
+pub returns : goal.returns
+returns c =
+    let a = c.args in
+    zeroed a.room.now a.count (omega arith) (c.fill.ensures.after (λ y e. e) ∙ ap (λ (n : ℕ). replicate n 0) (length-take-le (2 * a.count) a.room.now (omega arith)))
