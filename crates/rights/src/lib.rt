@@ -186,7 +186,7 @@ impl Blocks<'_> {
     fn some_permalock(&self) -> bool
         ensures { result ≡ some_permalock self.now.layout self.now.image.now }
     {
-        (0..image::blocks(self.layout)).any(|b| self.permalock(b) != 0)
+        (0..self.layout.blocks()).any(|b| self.permalock(b) != 0)
     }
 }
 
@@ -265,7 +265,7 @@ fn mask_fits(y: Layout, at: usize, frame: &[u8], from: usize, n: usize) -> bool
     requires { (at < 2 ^ 60) × (from < 2 ^ 61) × (n < 2 ^ 60) }
     ensures { result ≡ every (λ k. eqb (bit_at frame.now (from + k)) 0 || ltb (at + k) (blocks_in y)) n }
 {
-    let first = image::blocks(y).saturating_sub(at);
+    let first = y.blocks().saturating_sub(at);
     (0..n.saturating_sub(first)).all(|k| bits::bit(frame, from + (first + k)) == 0)
 }
 
@@ -359,7 +359,7 @@ impl Memory<'_> {
         if bad_pc(y, s, pc) {
             return Err(Fault::PastEnd);
         }
-        if image::pairs(y) < s.count as usize {
+        if y.pairs() < s.count as usize {
             return Err(Fault::Other);
         }
         Ok(())
