@@ -38,7 +38,6 @@ part-word s m i h =
     rw (part-byte s m (2 * i) (omega arith), part-byte s m (2 * i + 1) (omega arith), a, z) refl
 
 shown-word : (s : Section) (m : List ℕ) (i : ℕ) → 2 * end s ≤ length m → word_in (record { number = 0; bytes = bytes_of s m }) i ≡ cond (ltb i s.words) (Ok (Some (word_at m (s.at + i)))) (Ok None)
-unfolding word_in
 shown-word s m i h = rw (part_count s m h) (go (ltb i s.words) refl)
   where
     go : (p : Bool) → ltb i s.words ≡ p → ◌≡◌ {A = Word} (cond p (Ok (Some (word_at (bytes_of s m) i))) (Ok None)) (cond p (Ok (Some (word_at m (s.at + i)))) (Ok None))
@@ -51,7 +50,7 @@ among m p q r = cond p (refused 1) (cond q (refused 2) (cond r (refused 3) (good
 
 -- THE SAME ANSWERS: a view of any image answers for each word what the plain form does
 pub same_word : (m : List ℕ) (b i : ℕ) → word_in (view_of m b) i ≡ word_of m b i
-unfolding view_of word_of word_in check_of
+unfolding view_of word_of check_of
 same_word m b i = go (short m) (header_wrong m) (content_broken m) refl refl refl
   where
     go : (p q r : Bool) → short m ≡ p → header_wrong m ≡ q → content_broken m ≡ r → word_in (view_if m b (among m p q r)) i ≡ word_if m b i (among m p q r)

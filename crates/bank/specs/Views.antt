@@ -42,7 +42,7 @@ Word = Result (Option ℕ) ℕ
 abbrev pub words_shown : Shown → ℕ
 words_shown v = length v.bytes / 2
 
-unfoldable pub word_in : Shown → ℕ → Word
+abbrev pub word_in : Shown → ℕ → Word
 word_in v i = cond (eqb v.number 0) (cond (ltb i (words_shown v)) (Ok (Some (word_at v.bytes i))) (Ok None)) (Err v.number)
 
 -- THE PLAIN FORM: word i of bank b of the image m

@@ -48,11 +48,10 @@ never_both v e n = let z : ◌≡◌ {A = ℕ} 18 2 = sym n ∙ ap words_shown (
 
 -- a view that reads on into USER, and one that reads nothing
 pub never_on : (v : View) → shown v ≡ view_of worked 2 → word_in (shown v) 2 ≡ Ok (Some 3) → ⊥
-unfolding word_in
 never_on v e n = let z : ◌≡◌ {A = ℕ} 8 4 = sym (ap told n) ∙ ap (λ (x : Shown). told (word_in x 2)) (e ∙ cases.tid) in omega arith
 
 pub never-nothing : (v : View) → shown v ≡ view_of worked 2 → word_in (shown v) 1 ≡ Ok None → ⊥
-unfolding word_in word_at
+unfolding word_at
 never-nothing v e n = let z : ◌≡◌ {A = ℕ} 4 0x6006 = sym (ap told n) ∙ ap (λ (x : Shown). told (word_in x 1)) (e ∙ cases.tid) in omega arith
 
 -- the same of a word read in one call: the next bank's, and one of a bad image
