@@ -259,6 +259,7 @@ impl<'a> Frame<'a> {
         Ok(Calling::Select(choice, at))
     }
 
+    // Read and BlockErase are two functions, since each command takes its pointer apart by let .. else (DECISIONS, Forms).
     fn read(&self) -> Result<Command, Flaw>
         ensures { meaning result ≡ read_frame self.now.bytes.now self.now.bits }
     {
