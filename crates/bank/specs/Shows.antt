@@ -1,6 +1,6 @@
 -- A view shows its bank's words and no other (RULES 9.1): it answers as the plain form does, and a store outside the bank changes no byte
 -- of it. Assumes nothing.
-use Rattle.std.specs.Prelude.{ℕ, ◌+◌, ◌-◌, ◌*◌, ◌/◌, ◌≤◌, ◌<◌, ◌≡◌, refl, Bool, true, false, cond, List, ◌⊎◌, ltb, length, drop, get_or}
+use Rattle.std.specs.Prelude.{ℕ, ◌+◌, ◌-◌, ◌*◌, ◌/◌, ◌≤◌, ◌<◌, ◌≡◌, refl, Bool, true, false, cond, List, ◌⊎◌, ltb, length, drop, get_or, Some, None, Ok}
 use Rattle.std.proofs.Common.{sym, ◌∙◌, inl, inr, arith, ltb-true, length-drop, length-take-le, get_or-take, get_or-drop, drop-set-lt}
 use Rattle.std.proofs.Math.Path.{subst⁻¹}
 use Rattle.bits.specs.Words.{word_at, with_word}
@@ -14,9 +14,8 @@ use Rattle.image.specs.Rules.{Header}
 use Rattle.image.proofs.Answers.{check-good}
 use Rattle.rights.specs.Rights.{bank_of}
 use Rattle.rights.proofs.Banks.{bank-end}
-use Rattle.bank.specs.declared.Word.TheVariants as word
 use Rattle.bank.specs.declared.View.{View}
-use Rattle.bank.specs.Views.{shown, bytes_of, view_if, view_of, words_shown, word_in, word_if, word_of}
+use Rattle.bank.specs.Views.{Word, shown, bytes_of, view_if, view_of, words_shown, word_in, word_if, word_of}
 
 -- every bank of a good image lies in it
 pub bank-ends : (y : Layout) (m : List ℕ) (b : ℕ) → Header y m → 2 * end (bank_of y b) ≤ length m
@@ -38,11 +37,10 @@ part-word s m i h =
     let z : 2 * s.at + 2 * i + 1 ≡ 2 * s.at + (2 * i + 1) = omega arith in
     rw (part-byte s m (2 * i) (omega arith), part-byte s m (2 * i + 1) (omega arith), a, z) refl
 
-shown-word : (s : Section) (m : List ℕ) (i : ℕ) → 2 * end s ≤ length m → word_in (record { number = 0; bytes = bytes_of s m }) i ≡ cond (ltb i s.words) (word.Value (word_at m (s.at + i))) word.Past
-unfolding word_in
+shown-word : (s : Section) (m : List ℕ) (i : ℕ) → 2 * end s ≤ length m → word_in (record { number = 0; bytes = bytes_of s m }) i ≡ cond (ltb i s.words) (Ok (Some (word_at m (s.at + i)))) (Ok None)
 shown-word s m i h = rw (part_count s m h) (go (ltb i s.words) refl)
   where
-    go : (p : Bool) → ltb i s.words ≡ p → cond p (word.Value (word_at (bytes_of s m) i)) word.Past ≡ cond p (word.Value (word_at m (s.at + i))) word.Past
+    go : (p : Bool) → ltb i s.words ≡ p → ◌≡◌ {A = Word} (cond p (Ok (Some (word_at (bytes_of s m) i))) (Ok None)) (cond p (Ok (Some (word_at m (s.at + i)))) (Ok None))
     go true e = rw (part-word s m i (ltb-true i s.words e)) refl
     go false e = refl
 
@@ -52,7 +50,7 @@ among m p q r = cond p (refused 1) (cond q (refused 2) (cond r (refused 3) (good
 
 -- THE SAME ANSWERS: a view of any image answers for each word what the plain form does
 pub same_word : (m : List ℕ) (b i : ℕ) → word_in (view_of m b) i ≡ word_of m b i
-unfolding view_of word_of word_in check_of
+unfolding view_of word_of check_of
 same_word m b i = go (short m) (header_wrong m) (content_broken m) refl refl refl
   where
     go : (p q r : Bool) → short m ≡ p → header_wrong m ≡ q → content_broken m ≡ r → word_in (view_if m b (among m p q r)) i ≡ word_if m b i (among m p q r)

@@ -1,6 +1,6 @@
 -- Wrong answers that the promises of a view rule out, two for each, computed on the worked image: TID is words 26 and 27, USER follows
 -- (RULES 7.2). Assumes nothing.
-use Rattle.std.specs.Prelude.{ℕ, ◌+◌, ◌≡◌, refl, List, [], ◌∷◌, length, take}
+use Rattle.std.specs.Prelude.{ℕ, ◌+◌, ◌≡◌, refl, List, [], ◌∷◌, length, take, Some, None, Ok, Err}
 use Rattle.std.proofs.Common.{sym, ap, ◌∙◌, arith}
 use Rattle.bits.specs.Words.{word_at, with_word}
 use Rattle.image.specs.Layout.{layout_of, header_good, blocks_in}
@@ -8,9 +8,7 @@ use Rattle.image.specs.Content.{rules_hold, content_good}
 use Rattle.image.specs.Check.{check_of}
 use Rattle.image.specs.Worked.{worked}
 use Rattle.bank.specs.declared.View.{View}
-use Rattle.bank.specs.declared.Word.{Word}
-use Rattle.bank.specs.declared.Word.TheVariants as word
-use Rattle.bank.specs.Views.{Shown, shown, view_of, words_shown, word_in, word_of}
+use Rattle.bank.specs.Views.{Shown, Word, shown, view_of, words_shown, word_in, word_of}
 
 -- the worked image without its last word
 abbrev pub cut_off : List ℕ
@@ -19,10 +17,10 @@ cut_off = take 154 worked
 pub record Cases : Type 0 where
   pub tid : view_of worked 2 ≡ record { number = 0; bytes = 0xE2 ∷ 0x00 ∷ 0x60 ∷ 0x01 ∷ [] }
   pub bad : view_of cut_off 2 ≡ record { number = 2; bytes = [] }
-  pub last : word_of worked 2 1 ≡ word.Value 0x6001
-  pub past : word_of worked 2 2 ≡ word.Past
-  pub user : word_of worked 3 0 ≡ word.Value 3
-  pub refused : word_of cut_off 2 0 ≡ word.Refused 2
+  pub last : word_of worked 2 1 ≡ Ok (Some 0x6001)
+  pub past : word_of worked 2 2 ≡ Ok None
+  pub user : word_of worked 3 0 ≡ Ok (Some 3)
+  pub refused : word_of cut_off 2 0 ≡ Err 2
 
 pub cases : Cases
 unfolding view_of word_of check_of layout_of header_good blocks_in content_good rules_hold worked word_at with_word
@@ -30,9 +28,9 @@ cases = record { tid = refl; bad = refl; last = refl; past = refl; user = refl; 
 
 -- a word as a number
 abbrev told : Word → ℕ
-told (word.Refused n) = n
-told word.Past = 4
-told (word.Value v) = 5 + v
+told (Err n) = n
+told (Ok None) = 4
+told (Ok (Some v)) = 5 + v
 
 -- a view one word longer, and one that is made of a bad image
 pub never-longer : (v : View) → shown v ≡ view_of worked 2 → length v.words.now ≡ 6 → ⊥
@@ -49,17 +47,16 @@ pub never_both : (v : View) → shown v ≡ view_of worked 2 → words_shown (sh
 never_both v e n = let z : ◌≡◌ {A = ℕ} 18 2 = sym n ∙ ap words_shown (e ∙ cases.tid) in omega arith
 
 -- a view that reads on into USER, and one that reads nothing
-pub never_on : (v : View) → shown v ≡ view_of worked 2 → word_in (shown v) 2 ≡ word.Value 3 → ⊥
-unfolding word_in
+pub never_on : (v : View) → shown v ≡ view_of worked 2 → word_in (shown v) 2 ≡ Ok (Some 3) → ⊥
 never_on v e n = let z : ◌≡◌ {A = ℕ} 8 4 = sym (ap told n) ∙ ap (λ (x : Shown). told (word_in x 2)) (e ∙ cases.tid) in omega arith
 
-pub never-nothing : (v : View) → shown v ≡ view_of worked 2 → word_in (shown v) 1 ≡ word.Past → ⊥
-unfolding word_in word_at
+pub never-nothing : (v : View) → shown v ≡ view_of worked 2 → word_in (shown v) 1 ≡ Ok None → ⊥
+unfolding word_at
 never-nothing v e n = let z : ◌≡◌ {A = ℕ} 4 0x6006 = sym (ap told n) ∙ ap (λ (x : Shown). told (word_in x 1)) (e ∙ cases.tid) in omega arith
 
 -- the same of a word read in one call: the next bank's, and one of a bad image
 pub never-next : word_of worked 2 2 ≡ word_of worked 3 0 → ⊥
 never-next e = let z : ◌≡◌ {A = ℕ} 4 8 = ap told (sym cases.past ∙ e ∙ cases.user) in omega arith
 
-pub never-unchecked : word_of cut_off 2 0 ≡ word.Value 0xE200 → ⊥
+pub never-unchecked : word_of cut_off 2 0 ≡ Ok (Some 0xE200) → ⊥
 never-unchecked e = let z : ◌≡◌ {A = ℕ} 2 0xE205 = ap told (sym cases.refused ∙ e) in omega arith

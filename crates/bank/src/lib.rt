@@ -3,13 +3,12 @@
 
 ghost use Rattle.std.specs.Prelude.{◌≡◌, ◌*◌, ◌/◌, ◌≤◌, length};
 ghost use Rattle.image.specs.Layout.{end as end_of};
-ghost use Rattle.image.specs.Check.{row_of, check_of};
 ghost use Rattle.bank.specs.Views.{bank_number, bytes_of, shown, view_of, words_shown, word_in, word_of};
 
-use image::{Fit, Section};
+use image::Section;
 
 // The banks of an image.
-#[derive(Clone, Copy)]
+#[derive(Clone, Copy, Debug, PartialEq, Eq)]
 pub enum Bank {
     Reserved,
     Epc,
@@ -17,17 +16,8 @@ pub enum Bank {
     User,
 }
 
-// What reading a word answers.
-#[derive(Clone, Copy)]
-pub enum Word {
-    // The image is refused with this number.
-    Refused(u8),
-    Value(u16),
-    // Past the bank's end.
-    Past,
-}
-
-// One bank's part of an image; of a refused image the check's number and no byte.
+// One bank's part of an image; of a refused image the check's number and no byte. The number stands beside the words, since the laws of walks over a view (proofs/Viewed,
+// RULES 9.4) are of these two fields.
 #[derive(Clone, Copy)]
 pub struct View<'a> {
     words: &'a [u8],
@@ -51,55 +41,22 @@ fn bytes(image: &[u8], s: Section) -> &[u8]
     requires { 2 * end_of s ≤ length image.now }
     ensures { result.now ≡ bytes_of s image.now }
 {
-    &image[2 * s.at as usize..2 * image::end(s)]
+    &image[2 * s.at as usize..2 * s.end()]
 }
 
 // The bank's part of a good image.
-fn part(image: &[u8], bank: Bank) -> &[u8]
-    ensures { result.now ≡ (view_of image.now (bank_number bank)).bytes }
-{
-    match image::check(image) {
-        Fit::Short => &image[..0],
-        Fit::Header => &image[..0],
-        Fit::Content => &image[..0],
-        Fit::Good(y) => bytes(image, rights::bank(y, number(bank))),
-    }
-}
-
-// The check's number.
-fn answer(image: &[u8]) -> u8
-    ensures { result ≡ row_of (check_of image.now) }
-{
-    image::number(image::check(image))
-}
-
-// The words of some bytes.
-fn words_in(words: &[u8]) -> usize
-    ensures { result ≡ length words.now / 2 }
-{
-    words.len() / 2
-}
-
-// Word i of some bytes.
-fn word_in(words: &[u8], answer: u8, i: u16) -> Word
-    ensures { result ≡ word_in (record { number = answer; bytes = words.now }) i }
-{
-    if answer != 0 {
-        return Word::Refused(answer);
-    }
-    let i = i as usize;
-    if i < words.len() / 2 {
-        return Word::Value(bits::word(words, i));
-    }
-    Word::Past
-}
-
 pub fn view_of<'a>(image: &'a [u8], bank: Bank) -> View<'a>
     ensures { shown result ≡ view_of image.now (bank_number bank) }
 {
-    View {
-        words: part(image, bank),
-        answer: answer(image),
+    match image::check(image) {
+        Ok(y) => View {
+            words: bytes(image, rights::bank(y, number(bank))),
+            answer: 0,
+        },
+        Err(refusal) => View {
+            words: &image[..0],
+            answer: u8::from(refusal),
+        },
     }
 }
 
@@ -107,18 +64,25 @@ pub fn view_of<'a>(image: &'a [u8], bank: Bank) -> View<'a>
 pub fn count<'a>(v: View<'a>) -> usize
     ensures { result ≡ words_shown (shown v.entry) }
 {
-    words_in(v.words)
+    v.words.len() / 2
 }
 
-// Word i of a view.
-pub fn read<'a>(v: View<'a>, i: u16) -> Word
+// Word i of a view, or none past the bank's end. A refused image's is the check's number.
+pub fn read<'a>(v: View<'a>, i: u16) -> Result<Option<u16>, u8>
     ensures { result ≡ word_in (shown v.entry) i }
 {
-    word_in(v.words, v.answer, i)
+    if v.answer != 0 {
+        return Err(v.answer);
+    }
+    let i = i as usize;
+    if i < v.words.len() / 2 {
+        return Ok(Some(bits::word(v.words, i)));
+    }
+    Ok(None)
 }
 
 // Word i of a bank, through a view of it.
-pub fn word_of(image: &[u8], bank: Bank, i: u16) -> Word
+pub fn word_of(image: &[u8], bank: Bank, i: u16) -> Result<Option<u16>, u8>
     ensures { result ≡ word_of image.now (bank_number bank) i }
 {
     read(view_of(image, bank), i)

@@ -1,18 +1,17 @@
 -- EBV-8 pointers (RULES 3.6): groups of eight bits, of which the first says that another group follows. Assumes nothing.
-use Rattle.std.specs.Prelude.{ℕ, zero, suc, ◌+◌, ◌-◌, ◌*◌, cond, List, ltb}
+use Rattle.std.specs.Prelude.{ℕ, zero, suc, ◌+◌, ◌-◌, ◌*◌, cond, List, ltb, Option, Some, None}
 use Rattle.bits.specs.Bits.{field_at}
 use Rattle.ebv.specs.declared.Pointer.{Pointer}
-use Rattle.ebv.specs.declared.Pointer.TheVariants as pointer
 
 -- a number of the answer table, or the value and the bytes that it took
 pub data Read : Type 0 where
   refused : ℕ → Read
   whole : ℕ → ℕ → Read
 
--- the number and values of each answer in the code
-abbrev pub meaning : Pointer → Read
-meaning pointer.Malformed = refused 7
-meaning (pointer.Whole v e) = whole v e
+-- what each answer in the code says
+abbrev pub meaning : Option Pointer → Read
+meaning None = refused 7
+meaning (Some p) = whole p.value p.bytes
 
 -- in the n bits of m: the pointer that begins at bit i, after k groups with the value acc, with at most so many groups to come
 module _ (m : List ℕ) (n : ℕ) where

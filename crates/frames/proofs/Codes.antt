@@ -1,13 +1,15 @@
--- Frames that are malformed by their bit count; and the first two and four bits of a frame by its first eight. Assumes nothing.
+-- Frames that are malformed by their bit count, and those that pass; and the first two and four bits of a frame by its first eight. Assumes nothing.
 use Prim.Native.Nat.{ℕ, ◌+◌, ◌*◌, ◌≤◌, ◌<◌}
-use mathlib.Core.Path.{◌≡◌}
+use mathlib.Core.Path.{◌≡◌, refl}
 use native.Mathlib.Omega.{arith}
 use Rattle.bits.specs.Bits.{field_at}
 use Rattle.bits.proofs.Fields.{field-first}
-use mathlib.Core.Bool.{or-true}
+use mathlib.Core.Bool.{Bool, true, false, cond, not, or-true}
 use mathlib.Core.List.{List}
 use lib.ListN.{length}
 use borrow.Author.Tests.{lt-ltb}
+use Rattle.std.specs.Prelude.{Ok, Err}
+use Rattle.frames.specs.declared.Flaw.TheVariants as flaw
 use Rattle.frames.specs.Message as heard
 use Rattle.frames.specs.Frames.{heard_of}
 
@@ -30,3 +32,8 @@ two-above m k a e = omega (arith, field-first m 0 2 6)
 
 pub four-above : (m : List ℕ) (k : ℕ) → k * 16 + 16 ≤ field_at m 0 8 → field_at m 0 4 ≡ k → ⊥
 four-above m k a e = omega (arith, field-first m 0 4 4)
+
+-- a frame that passed the test of its length
+pub passed : (b : Bool) (u : Unit {0}) → cond (not b) (Err flaw.Malformed) (Ok tt) ≡ Ok u → b ≡ true
+passed true u e = refl
+passed false u e = let z : ◌≡◌ {A = ℕ} 0 1 = cc in absurd (omega arith)

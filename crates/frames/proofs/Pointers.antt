@@ -1,14 +1,12 @@
 -- A pointer takes at most three bytes, or is refused with 7. Assumes nothing.
 use Prim.Native.Nat.{ℕ, zero, suc, ◌+◌, ◌-◌, ◌*◌, ◌≤◌}
-use mathlib.Core.Path.{◌≡◌, refl, sym, ap, ◌∙◌, subst}
+use mathlib.Core.Path.{◌≡◌, refl, subst}
 use mathlib.Core.Bool.{Bool, true, false, cond}
 use mathlib.Core.List.{List}
 use native.Mathlib.Omega.{arith}
 use lib.Dec.{ltb}
 use Rattle.bits.specs.Bits.{field_at}
-use Rattle.ebv.specs.declared.Pointer.{Pointer}
-use Rattle.ebv.specs.declared.Pointer.TheVariants as pointer
-use Rattle.ebv.specs.Ebv.{Read, refused, whole, meaning, groups, pointer_at}
+use Rattle.ebv.specs.Ebv.{Read, refused, whole, groups, pointer_at}
 
 abbrev pub Fits : ℕ → Read → Type 0
 Fits b (refused k) = k ≡ 7
@@ -29,6 +27,3 @@ groups-fit m n i k acc (suc more) =
 pub fits : (m : List ℕ) (n i : ℕ) → Fits 3 (pointer_at m n i)
 unfolding pointer_at
 fits m n i = groups-fit m n i 0 0 3
-
-pub few : (m : List ℕ) (n i : ℕ) {r : Pointer} {p e : ℕ} → meaning r ≡ pointer_at m n i → r ≡ pointer.Whole p e → e ≤ 3
-few m n i q h = subst (Fits 3) (sym q ∙ ap meaning h) (fits m n i)

@@ -1,16 +1,19 @@
 -- What a frame can say (RULES 3.5 to 3.8). Assumes nothing.
-use Rattle.std.specs.Prelude.{ℕ}
+use Rattle.std.specs.Prelude.{ℕ, Result, Ok, Err}
 use Rattle.frames.specs.declared.Command.{Command}
-use Rattle.frames.specs.declared.Heard.{Heard}
-use Rattle.frames.specs.declared.Heard.TheVariants as answer
+use Rattle.frames.specs.declared.Flaw.{Flaw}
+use Rattle.frames.specs.declared.Flaw.TheVariants as flaw
 
 -- a number of the answer table, or a command
 pub data Message : Type 0 where
   refused : ℕ → Message
   said : Command → Message
 
--- the number and values of each answer in the code
-abbrev pub meaning : Heard → Message
-meaning answer.Malformed = refused 7
-meaning answer.Checksum = refused 8
-meaning (answer.Said c) = said c
+-- the number of each flaw, and what each answer in the code says
+abbrev pub flaw_number : Flaw → ℕ
+flaw_number flaw.Malformed = 7
+flaw_number flaw.Checksum = 8
+
+abbrev pub meaning : Result Command Flaw → Message
+meaning (Ok c) = said c
+meaning (Err f) = refused (flaw_number f)

@@ -1,21 +1,26 @@
 -- The frames without a pointer, one by one, and what a frame of inventory says, as the code reads them. Assumes nothing.
-use Rattle.std.specs.Prelude.{ℕ, List}
+use Rattle.std.specs.Prelude.{ℕ, List, Result, Ok, Err}
 use Rattle.bits.specs.Bits.{field_at}
+use Rattle.frames.specs.declared.Flaw.{Flaw}
 use Rattle.frames.specs.declared.Calling.{Calling}
 use Rattle.frames.specs.declared.Calling.TheVariants as call
+use Rattle.frames.specs.declared.Order.{Order}
 use Rattle.frames.specs.declared.Order.TheVariants as order
-use Rattle.frames.specs.Message.{Message}
+use Rattle.frames.specs.Message.{Message, flaw_number}
 use Rattle.frames.specs.Message as heard
 use Rattle.frames.specs.Frames.{exactly, plainly, to_all}
 
-abbrev pub called : Calling → Message
-called call.Malformed = heard.refused 7
-called call.Checksum = heard.refused 8
-called (call.QueryRep k) = heard.said (to_all (order.QueryRep k))
-called (call.Ack n) = heard.said (to_all (order.Ack n))
-called (call.Query sel t k q) = heard.said (to_all (order.Query sel t (record { session = k; q = q })))
-called (call.QueryAdjust k u) = heard.said (to_all (order.QueryAdjust k u))
-called (call.Select c p) = heard.said (to_all (order.Select c p))
+-- the order that a call of inventory is, and what each answer in the code says
+abbrev pub order_in : Calling → Order
+order_in (call.QueryRep k) = order.QueryRep k
+order_in (call.Ack n) = order.Ack n
+order_in (call.Query sel t k q) = order.Query sel t (record { session = k; q = q })
+order_in (call.QueryAdjust k u) = order.QueryAdjust k u
+order_in (call.Select c p) = order.Select c p
+
+abbrev pub called : Result Calling Flaw → Message
+called (Ok c) = heard.said (to_all (order_in c))
+called (Err f) = heard.refused (flaw_number f)
 
 abbrev pub query_rep_frame : List ℕ → ℕ → Message
 query_rep_frame m n = plainly n 4 (order.QueryRep (field_at m 2 2))

@@ -8,9 +8,11 @@ use lib.Dec.{eqb}
 use lib.ListN.{length}
 use borrow.Author.Tests.{le-ltb, ltb-false, eqb-true, eqb-false, eq-eqb, ne_eqb}
 use Rattle.image.specs.declared.Layout.{Layout}
+use Rattle.image.specs.declared.Refusal.{Refusal}
+use Rattle.image.specs.declared.Refusal.TheVariants as refusal
 use Rattle.image.specs.Layout.{layout_of, header_good}
 use Rattle.image.specs.Content.{count_in, content_good}
-use Rattle.image.specs.Check.{Checked, refused, good, row_of, check_of}
+use Rattle.image.specs.Check.{Checked, refused, good, refusal_number, row_of, check_of}
 use Rattle.image.specs.Rules.{Good}
 use Rattle.image.specs.Steps.{content_fits, pending_row, content_row, ready_row, short, header_wrong, content_broken}
 use Rattle.image.proofs.Rules.{header-both, content-both}
@@ -166,7 +168,6 @@ ready-some m z e = let t : eqb (count_in (layout_of m) m) 0 ≡ false = ne_eqb (
 
 -- past the header it is the content's
 pub from_row : (m : List ℕ) {y : Layout} → y ≡ layout_of m → 32 ≤ length m → header_good y m ≡ true → content_row y m ≡ ready_row m
-unfolding content_row
 from_row m {y} p l h = go (content_fits y m) refl
   where
     go : (b : Bool) → content_fits y m ≡ b → cond (content_fits y m) (pending_row y m) 3 ≡ ready_row m
@@ -213,3 +214,13 @@ ready-zero m e = (r, go (eqb (count_in (layout_of m) m) 0) refl)
     go : (b : Bool) → eqb (count_in (layout_of m) m) 0 ≡ b → count_in (layout_of m) m ≡ 0
     go true p = eqb-true (count_in (layout_of m) m) 0 p
     go false p = absurd (omega (arith, sym e ∙ ready-some m (eqb-false (count_in (layout_of m) m) 0 p) r))
+
+-- the code's answer: a refusal is the check's, and past them the image is good
+pub ready-refused : (m : List ℕ) (r : Refusal) → refusal_number r ≡ ready_row m → refused (refusal_number r) ≡ check_of m
+ready-refused m refusal.Short e = row-refused m 1 (ready-is m 1 (sym e) (omega arith)) (omega arith)
+ready-refused m refusal.Header e = row-refused m 2 (ready-is m 2 (sym e) (omega arith)) (omega arith)
+ready-refused m refusal.Content e = row-refused m 3 (ready-is m 3 (sym e) (omega arith)) (omega arith)
+
+pub ready-passed : (m : List ℕ) (b : Bool) → cond b 5 0 ≡ ready_row m → row_of (check_of m) ≡ 0
+ready-passed m true e = row-pending m (sym e)
+ready-passed m false e = ready-is m 0 (sym e) (omega arith)

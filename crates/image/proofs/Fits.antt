@@ -19,7 +19,7 @@ use Rattle.image.specs.declared.Layout.{Layout}
 use Rattle.image.specs.Layout.{end, blocks_in, pairs_in}
 use Rattle.image.specs.Content.{killed_word, count_in, pair_at, pending, inside, may_go, content_good}
 use Rattle.image.specs.Rules.{Header, Content}
-use Rattle.image.specs.Steps.{spare_in, may_stand, between, may_take, last_in, word_rules, words_fit, pair_fits, content_steps, content_fits}
+use Rattle.image.specs.Steps.{spare_in, may_stand, between, may_take, last_in, word_rules, pair_fits, content_steps, content_fits}
 use Rattle.image.proofs.Rules.{content-both}
 
 -- v may stand at word i, as a fact
@@ -28,7 +28,6 @@ Ok y i v = may_stand y i v ≡ true
 
 pub ok-if : (y : Layout) (i v : ℕ) → (i ≡ y.status.at → v < 1024) → (i ≡ y.status.at + 1 → v < 2) → (i ≡ y.epc.at + 1 → v / 2048 + 2 ≤ y.epc.words)
     → (i + 1 ≡ end y.perma → v % 2 ^ spare_in y ≡ 0) → Ok y i v
-unfolding may_stand
 ok-if y i v lock killed pc last =
     cond-test _ _ _ _ (λ q. lt-ltb v 1024 (lock q))
     (λ n. cond-test _ _ _ _ (λ q. lt-ltb v 2 (killed q))
@@ -64,24 +63,20 @@ module _ (y : Layout) (h : List ℕ) (g : Header y h) where
   size = omega (arith, g.perma.least, g.perma.most)
 
   at-lock : (v : ℕ) → Ok y y.status.at v → v < 1024
-  unfolding may_stand
   at-lock v e = ltb-true v 1024 (simp (eq-eqb y.status.at y.status.at refl) at e)
 
   at-killed : (v : ℕ) → Ok y (y.status.at + 1) v → v < 2
-  unfolding may_stand
   at-killed v e =
       let n : y.status.at + 1 ≡ y.status.at → ⊥ = omega arith in
       ltb-true v 2 (simp (ne_eqb _ _ n, eq-eqb (y.status.at + 1) (y.status.at + 1) refl) at e)
 
   pub at-pc : (v : ℕ) → Ok y (y.epc.at + 1) v → v / 2048 + 2 ≤ y.epc.words
-  unfolding may_stand
   at-pc v e =
       let n : y.epc.at + 1 ≡ y.status.at → ⊥ = omega arith in
       let o : y.epc.at + 1 ≡ y.status.at + 1 → ⊥ = omega arith in
       leb-true _ _ (simp (ne_eqb _ _ n, ne_eqb _ _ o, eq-eqb (y.epc.at + 1) (y.epc.at + 1) refl) at e)
 
   at_last : (v : ℕ) → Ok y (last_in y) v → v % 2 ^ spare_in y ≡ 0
-  unfolding may_stand
   at_last v e = go (dec_lt 0 y.perma.words)
     where
       go : Dec (0 < y.perma.words) → v % 2 ^ spare_in y ≡ 0
@@ -199,7 +194,6 @@ module _ (y : Layout) (h : List ℕ) (g : Header y h) where
 
   -- the steps' tests hold where the rules do, and only there
   steps-if : ((k : ℕ) → Content y (after h (take k (pending y h)))) → content_fits y h ≡ true
-  unfolding content_fits words_fit
   steps-if c =
       let f = content-fine h (c 0) in
       let under : Under y.work.at (pending y h) = all-below (λ s. s.at < y.work.at) (pair_at y h) (count_in y h) (λ j l. (go-below _ ((c 0).places j l)).1) in
@@ -227,7 +221,6 @@ module _ (y : Layout) (h : List ℕ) (g : Header y h) where
       ap₂ store (after-avoids h ss a (under-avoids y.work.at a ss (omega arith) u)) (after-avoids h ss (a + 1) (under-avoids y.work.at (a + 1) ss (omega arith) u))
 
   if-steps : content_fits y h ≡ true → (k : ℕ) → Content y (after h (take k (pending y h)))
-  unfolding content_fits words_fit
   if-steps e k =
       let t = all-each (content_steps y h) e in
       let w = all-each (word_rules y h) t.0 in

@@ -17,7 +17,7 @@ use Rattle.image.specs.declared.Layout.{Layout}
 use Rattle.image.specs.Layout.{end, up, within, stands, header_rules, header_good, blocks_in}
 use Rattle.image.specs.Content.{permalock, pair_at, may_go, pending, content_rules, rules_hold, again_after, content_good}
 use Rattle.image.specs.Rules.{Stands, Header, Content}
-use Rattle.image.specs.Steps.{start_rules, start_good, bank_rules, banks_good, perma_rules, perma_good, work_rules, work_good, header_steps}
+use Rattle.image.specs.Steps.{start_rules, bank_rules, perma_rules, work_rules, header_steps}
 
 within-fact : (a b x : ℕ) → within a b x ≡ true → (a ≤ x) × (x ≤ b)
 within-fact a b x e = (leb-true a x (and_left (leb a x) (leb x b) e), leb-true x b (and_right (leb a x) (leb x b) e))
@@ -117,7 +117,7 @@ header-both y m = (header-fact y m, header-test y m)
 
 -- the code's steps ask the same
 header-steps : (y : Layout) (m : List ℕ) → Header y m → all (header_steps y m) ≡ true
-unfolding start_good banks_good perma_good work_good blocks_in
+unfolding blocks_in
 header-steps y m h =
     let odd : y.work.words % 2 ≡ 0 → ⊥ = omega arith in
     let perma : Stands y.perma (end y.user) 0 16 = record { at = h.perma.at; least = omega arith; most = omega (arith, h.blocks, h.perma.most) } in
@@ -146,7 +146,7 @@ header-steps y m h =
     )
 
 steps-header : (y : Layout) (m : List ℕ) → all (header_steps y m) ≡ true → Header y m
-unfolding start_good banks_good perma_good work_good blocks_in
+unfolding blocks_in
 steps-header y m e =
     let t = all-each (header_steps y m) e in
     let a = all-each (start_rules y m) t.0 in

@@ -1,8 +1,8 @@
 -- What the image check answers (RULES 5.1 to 5.3). Assumes nothing.
-use Rattle.std.specs.Prelude.{ℕ, Bool, not, List, [], ◌∷◌, ltb, length}
+use Rattle.std.specs.Prelude.{ℕ, Bool, not, List, [], ◌∷◌, ltb, length, Result, Ok, Err}
 use Rattle.image.specs.declared.Layout.{Layout}
-use Rattle.image.specs.declared.Fit.{Fit}
-use Rattle.image.specs.declared.Fit.TheVariants as fit
+use Rattle.image.specs.declared.Refusal.{Refusal}
+use Rattle.image.specs.declared.Refusal.TheVariants as refusal
 use Rattle.image.specs.Layout.{layout_of, header_good}
 use Rattle.image.specs.Content.{content_good}
 use Rattle.bits.specs.First.{first}
@@ -12,12 +12,15 @@ pub data Checked : Type 0 where
   refused : ℕ → Checked
   good : Layout → Checked
 
--- the number and values of each answer in the code
-abbrev pub meaning : Fit → Checked
-meaning fit.Short = refused 1
-meaning fit.Header = refused 2
-meaning fit.Content = refused 3
-meaning (fit.Good y) = good y
+-- the number of each refusal, and what each answer in the code says
+abbrev pub refusal_number : Refusal → ℕ
+refusal_number refusal.Short = 1
+refusal_number refusal.Header = 2
+refusal_number refusal.Content = 3
+
+abbrev pub meaning : Result Layout Refusal → Checked
+meaning (Ok y) = good y
+meaning (Err r) = refused (refusal_number r)
 
 -- the number in the answer table
 abbrev pub row_of : Checked → ℕ

@@ -1,10 +1,10 @@
 -- The worked image (RULES 6.1), and what the check says of it and of images beside it, computed. Assumes nothing.
-use Rattle.std.specs.Prelude.{ℕ, ◌/◌, ◌%◌, ◌≡◌, refl, List, [], ◌∷◌, ◌++◌, take, replicate}
+use Rattle.std.specs.Prelude.{ℕ, ◌/◌, ◌%◌, ◌≡◌, refl, List, [], ◌∷◌, ◌++◌, take, replicate, Ok, Err}
 use Rattle.std.proofs.Common.{arith}
 use Rattle.bits.specs.Words.{word_at, with_word, after, store}
 use Rattle.image.specs.declared.Section.{Section}
 use Rattle.image.specs.declared.Layout.{Layout}
-use Rattle.image.specs.declared.Fit.TheVariants as fit
+use Rattle.image.specs.declared.Refusal.TheVariants as refusal
 use Rattle.image.specs.Layout.{layout_of, blocks_in, header_good}
 use Rattle.image.specs.Content.{rules_hold, content_good}
 use Rattle.image.specs.Check.{meaning, refused, good, check_of}
@@ -87,8 +87,8 @@ cases =
     }
 
 -- two wrong answers that the check's promise rules out: good, where only the pending value breaks a rule; and a refusal of the worked image
-pub never-good : (y : Layout) → meaning (fit.Good y) ≡ check_of (pending_one 23 0x1800) → ⊥
+pub never-good : (y : Layout) → meaning (Ok y) ≡ check_of (pending_one 23 0x1800) → ⊥
 never-good y e = let p = cases.pends_l_3 in let z : ◌≡◌ {A = ℕ} 0 1 = cc in omega arith
 
-pub never-refused : meaning fit.Content ≡ check_of worked → ⊥
+pub never-refused : meaning (Err refusal.Content) ≡ check_of worked → ⊥
 never-refused e = let p = cases.found in let z : ◌≡◌ {A = ℕ} 0 1 = cc in omega arith

@@ -1,35 +1,37 @@
--- Laws of a mask whose bits of blocks that don't exist are 0. Assumes nothing.
+-- A mask whose bits of blocks that don't exist are 0. Assumes nothing.
 use Prim.Native.Nat.{ℕ, ◌+◌, ◌-◌, ◌≤◌, ◌<◌}
 use mathlib.Core.Path.{◌≡◌}
-use mathlib.Core.Bool.{true, false, ◌||◌, or-true}
+use mathlib.Core.Bool.{Bool, true, ◌||◌, or-true, or-false}
 use mathlib.Core.List.{List}
 use native.Mathlib.Omega.{arith}
 use native.Mathlib.Decide.{dec_lt}
 use lib.Dec.{eqb, ltb}
-use borrow.Author.Tests.{lt-ltb, le-ltb, eq-eqb, ne_eqb}
+use borrow.Author.Tests.{lt-ltb, le-ltb}
 use Rattle.bits.specs.Below.{every}
 use Rattle.bits.specs.Bits.{bit_at}
-use Rattle.bits.proofs.Below.{every-not, every-all}
+use Rattle.bits.proofs.Below.{same_test, every-at, every-all}
 
--- the bits from bit p of f on, for the blocks from block b on, of c blocks
-module _ (f : List ℕ) (p b c n : ℕ) where
-  pub mask-all : ((j : ℕ) → c - b ≤ j → j < n → bit_at f (p + j) ≡ 0) → every (λ k. eqb (bit_at f (p + k)) 0 || ltb (b + k) c) n ≡ true
-  mask-all h = every-all (λ k. eqb (bit_at f (p + k)) 0 || ltb (b + k) c) n (λ j l. go j l (dec_lt (b + j) c))
-    where
-      go : (j : ℕ) → j < n → Dec (b + j < c) → eqb (bit_at f (p + j)) 0 || ltb (b + j) c ≡ true
-      go j l (yes s) = rw (lt-ltb _ _ s) (or-true (eqb (bit_at f (p + j)) 0))
-      go j l (no s) = rw (eq-eqb _ _ (h j (omega arith) l))
-
-  pub mask-not : (k : ℕ) → k < n → (bit_at f (p + k) ≡ 0 → ⊥) → c - b ≤ k → every (λ k. eqb (bit_at f (p + k)) 0 || ltb (b + k) c) n ≡ false
-  mask-not k l d s =
-      let a : c ≤ b + k = omega arith in
-      every-not (λ k. eqb (bit_at f (p + k)) 0 || ltb (b + k) c) n k l (rw (ne_eqb _ _ d, le-ltb _ _ a))
-
--- one bit more
-pub bits-more : (f : List ℕ) (p least k : ℕ) → ((j : ℕ) → least ≤ j → j < k → bit_at f (p + j) ≡ 0) → bit_at f (p + k) ≡ 0
-    → (j : ℕ) → least ≤ j → j < k + 1 → bit_at f (p + j) ≡ 0
-bits-more f p least k h e j a b = go (dec_lt j k)
+-- of n bits from bit p of f on, for the blocks from block b on, of c blocks, those that are asked
+pub mask-rest : (f : List ℕ) (p b c n s : ℕ) → s ≡ c - b
+    → every (λ k. eqb (bit_at f (p + (s + k))) 0) (n - s) ≡ every (λ k. eqb (bit_at f (p + k)) 0 || ltb (b + k) c) n
+mask-rest f p b c n s z = same_test (every rest (n - s)) (every test n) forth back
   where
-    go : Dec (j < k) → bit_at f (p + j) ≡ 0
-    go (yes l) = h j a l
-    go (no l) = let z : j ≡ k = omega arith in rw z e
+    rest : ℕ → Bool
+    rest k = eqb (bit_at f (p + (s + k))) 0
+
+    test : ℕ → Bool
+    test k = eqb (bit_at f (p + k)) 0 || ltb (b + k) c
+
+    forth : every rest (n - s) ≡ true → every test n ≡ true
+    forth e = every-all test n (λ j l. go j l (dec_lt (b + j) c))
+      where
+        go : (j : ℕ) → j < n → Dec (b + j < c) → test j ≡ true
+        go j l (yes h) = rw (lt-ltb _ _ h) (or-true (eqb (bit_at f (p + j)) 0))
+        go j l (no h) =
+            let q : p + (s + (j - s)) ≡ p + j = omega arith in
+            rw (rw q at (every-at rest (n - s) e (j - s) (omega arith)))
+
+    back : every test n ≡ true → every rest (n - s) ≡ true
+    back e = every-all rest (n - s) (λ j l.
+        let h : c ≤ b + (s + j) = omega arith in
+        rw (le-ltb _ _ h, or-false) at (every-at test n e (s + j) (omega arith)))

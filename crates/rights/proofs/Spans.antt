@@ -21,9 +21,9 @@ every_front t (suc n) =
     ap (λ (b : Bool). b && t (suc n)) (every_front t n) ∙ and_assoc (t 0) (every (λ j. t (suc j)) n) (t (suc n))
 
 -- a bank other than RESERVED is read always
-pub others-read : (y : Layout) (m : List ℕ) (secured : Bool) (s : Span) (n : ℕ) → (s.bank ≡ 0 → ⊥)
+pub others_read : (y : Layout) (m : List ℕ) (secured : Bool) (s : Span) (n : ℕ) → (s.bank ≡ 0 → ⊥)
     → every (λ j. may_read y m secured s.bank (s.pointer + j)) n ≡ true
-others-read y m secured s n d = every-all (λ j. may_read y m secured s.bank (s.pointer + j)) n (λ j h. rw (ne_eqb _ _ d))
+others_read y m secured s n d = every-all (λ j. may_read y m secured s.bank (s.pointer + j)) n (λ j h. rw (ne_eqb _ _ d))
 
 -- none of the words is word 0
 pub beyond-zero : (p n : ℕ) → 0 < n → not (eqb p 0) ≡ every (λ j. not (eqb (p + j) 0)) n
@@ -48,8 +48,8 @@ module _ (f : ℕ → Bool) (p n : ℕ) where
   abbrev high : Bool
   high = eqb n 0 || leb (p + n) 2 || f 1
 
-  pub two-parts : every (λ j. f (cond (ltb (p + j) 2) 0 1)) n ≡ ((eqb n 0 || leb 2 p || f 0) && (eqb n 0 || leb (p + n) 2 || f 1))
-  two-parts = same_test (every part n) (low && high) down up
+  pub two_parts : every (λ j. f (cond (ltb (p + j) 2) 0 1)) n ≡ ((eqb n 0 || leb 2 p || f 0) && (eqb n 0 || leb (p + n) 2 || f 1))
+  two_parts = same_test (every part n) (low && high) down up
     where
       down : every part n ≡ true → low && high ≡ true
       down e =

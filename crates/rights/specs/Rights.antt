@@ -1,5 +1,5 @@
 -- Word rights and error codes (RULES 3.18 to 3.22). Assumes nothing.
-use Rattle.std.specs.Prelude.{ℕ, ◌+◌, ◌-◌, ◌*◌, ◌/◌, ◌%◌, ◌^◌, Bool, cond, not, ◌&&◌, ◌||◌, List, [], ◌∷◌, eqb, leb, ltb}
+use Rattle.std.specs.Prelude.{Result, Ok, Err, ℕ, ◌+◌, ◌-◌, ◌*◌, ◌/◌, ◌%◌, ◌^◌, Bool, cond, not, ◌&&◌, ◌||◌, List, [], ◌∷◌, eqb, leb, ltb}
 use Rattle.std.specs.Int.Bits.{bit_and, bit_or, bit_xor}
 use Rattle.bits.specs.Bits.{bit_at}
 use Rattle.bits.specs.Below.{every}
@@ -9,8 +9,6 @@ use Rattle.image.specs.declared.Layout.{Layout}
 use Rattle.image.specs.Layout.{blocks_in, pairs_in}
 use Rattle.image.specs.Content.{lock_word, length_of, pc_word, permalock}
 use Rattle.frames.specs.declared.Span.{Span}
-use Rattle.rights.specs.declared.Code.{Code}
-use Rattle.rights.specs.declared.Code.TheVariants.{Nothing, Error}
 use Rattle.rights.specs.declared.Fault.{Fault}
 use Rattle.rights.specs.declared.Fault.TheVariants.{Other, PastEnd, NoRight}
 
@@ -68,28 +66,28 @@ abbrev pub beyond : Section → Span → Bool
 beyond b s = leb b.words s.pointer || ltb b.words (s.pointer + s.count)
 
 -- 3.20: the first code that applies to a Read
-unfoldable pub read_code : Layout → List ℕ → Bool → Span → Code
+unfoldable pub read_code : Layout → List ℕ → Bool → Span → Result Unit Fault
 read_code y m secured s =
     first
-    ((Error PastEnd, beyond (bank_of y s.bank) s)
-    ∷ (Error NoRight, not (every (λ j. may_read y m secured s.bank (s.pointer + j)) (span_words y m s)))
+    ((Err PastEnd, beyond (bank_of y s.bank) s)
+    ∷ (Err NoRight, not (every (λ j. may_read y m secured s.bank (s.pointer + j)) (span_words y m s)))
     ∷ [])
-    Nothing
+    (Ok tt)
 
 -- the span takes EPC word 1, the PC, and pc would stand there with a length that the bank can't hold
 abbrev pub bad_pc : Layout → Span → ℕ → Bool
 bad_pc y s pc = eqb s.bank 1 && leb s.pointer 1 && ltb 1 (s.pointer + s.count) && ltb y.epc.words (length_of pc + 2)
 
 -- 3.20: the first code that applies to a Write, BlockWrite or BlockErase; pc is what would stand in EPC word 1
-unfoldable pub write_code : Layout → List ℕ → Bool → Span → ℕ → Code
+unfoldable pub write_code : Layout → List ℕ → Bool → Span → ℕ → Result Unit Fault
 write_code y m secured s pc =
     first
-    ((Error PastEnd, beyond (bank_of y s.bank) s)
-    ∷ (Error NoRight, not (every (λ j. may_write y m secured s.bank (s.pointer + j)) s.count))
-    ∷ (Error PastEnd, bad_pc y s pc)
-    ∷ (Error Other, ltb (pairs_in y) s.count)
+    ((Err PastEnd, beyond (bank_of y s.bank) s)
+    ∷ (Err NoRight, not (every (λ j. may_write y m secured s.bank (s.pointer + j)) s.count))
+    ∷ (Err PastEnd, bad_pc y s pc)
+    ∷ (Err Other, ltb (pairs_in y) s.count)
     ∷ [])
-    Nothing
+    (Ok tt)
 
 -- 3.21: the lock word after a Lock: masked bits are the action's
 unfoldable pub locked_to : ℕ → ℕ → ℕ → ℕ
@@ -106,28 +104,28 @@ some_permalock y m = not (every (λ i. eqb (permalock y m i) 0) (blocks_in y))
 abbrev pub user_open_for_good : ℕ → Bool
 user_open_for_good lock = eqb (pwd_bit lock 4) 0 && eqb (perma_bit lock 4) 1
 
-unfoldable pub lock_code : Layout → List ℕ → ℕ → ℕ → Code
+unfoldable pub lock_code : Layout → List ℕ → ℕ → ℕ → Result Unit Fault
 lock_code y m mask action =
     let new = locked_to (lock_word y m) mask action in
     first
-    ((Error NoRight, not (every (λ k. not (pair_breaks (lock_word y m) new k)) 5))
-    ∷ (Error NoRight, not (eqb (mask % 4) 0) && user_open_for_good new && some_permalock y m)
+    ((Err NoRight, not (every (λ k. not (pair_breaks (lock_word y m) new k)) 5))
+    ∷ (Err NoRight, not (eqb (mask % 4) 0) && user_open_for_good new && some_permalock y m)
     ∷ [])
-    Nothing
+    (Ok tt)
 
 -- 3.22: BlockPermalock. Pointer and count are of PERMA words
 abbrev pub not_perma : Layout → Span → Bool
 not_perma y s = not (eqb s.bank 3) || ltb y.perma.words (s.pointer + s.count)
 
-unfoldable pub perma_read_code : Layout → Span → Code
-perma_read_code y s = first ((Error PastEnd, not_perma y s) ∷ []) Nothing
+unfoldable pub perma_read_code : Layout → Span → Result Unit Fault
+perma_read_code y s = first ((Err PastEnd, not_perma y s) ∷ []) (Ok tt)
 
 -- the mask stands in the frame f from bit p on; bit k is for block 16 * pointer + k
-unfoldable pub perma_code : Layout → List ℕ → Span → List ℕ → ℕ → Code
+unfoldable pub perma_code : Layout → List ℕ → Span → List ℕ → ℕ → Result Unit Fault
 perma_code y m s f p =
     first
-    ((Error PastEnd, not_perma y s)
-    ∷ (Error PastEnd, not (every (λ k. eqb (bit_at f (p + k)) 0 || ltb (16 * s.pointer + k) (blocks_in y)) (16 * s.count)))
-    ∷ (Error NoRight, user_open_for_good (lock_word y m))
+    ((Err PastEnd, not_perma y s)
+    ∷ (Err PastEnd, not (every (λ k. eqb (bit_at f (p + k)) 0 || ltb (16 * s.pointer + k) (blocks_in y)) (16 * s.count)))
+    ∷ (Err NoRight, user_open_for_good (lock_word y m))
     ∷ [])
-    Nothing
+    (Ok tt)

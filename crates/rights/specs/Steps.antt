@@ -1,19 +1,12 @@
 -- What the code looks for: the first locked word, and what a word asks beside its pair. Assumes nothing.
-use Rattle.std.specs.Prelude.{ℕ, zero, suc, ◌+◌, ◌*◌, Bool, true, false, cond, not, ◌&&◌, ◌||◌, List, eqb, ltb}
+use Rattle.std.specs.Prelude.{Option, Some, None, ℕ, zero, suc, ◌+◌, ◌*◌, Bool, cond, not, ◌&&◌, ◌||◌, List, eqb, ltb}
 use Rattle.image.specs.declared.Layout.{Layout}
-use Rattle.rights.specs.declared.Found.{Found}
-use Rattle.rights.specs.declared.Found.TheVariants as found
 use Rattle.rights.specs.Rights.{block_open}
 
 -- the first of the n USER words from word i on that stands in a permalocked block
-abbrev pub first_locked : Layout → List ℕ → ℕ → ℕ → Found
-first_locked y m i zero = found.Nothing
-first_locked y m i (suc n) = cond (block_open y m i) (first_locked y m (i + 1) n) (found.At i)
-
--- nothing was found
-abbrev pub is_nothing : Found → Bool
-is_nothing found.Nothing = true
-is_nothing (found.At i) = false
+abbrev pub first_locked : Layout → List ℕ → ℕ → ℕ → Option ℕ
+first_locked y m i zero = None
+first_locked y m i (suc n) = cond (block_open y m i) (first_locked y m (i + 1) n) (Some i)
 
 -- what writing word i of bank b asks beside its pair
 abbrev pub rest_open : Layout → List ℕ → ℕ → ℕ → Bool

@@ -1,7 +1,25 @@
--- `bank::view_of` meets its contract: `part` gives the bytes, and `answer` the number. Assumes nothing.
-use Rattle.bank.specs.Views.{bank_number}
-use Rattle.bank.proofs.Viewed.{made}
+-- `bank::view_of` meets its contract: by the check's answer. Assumes nothing.
+use mathlib.Core.Path.{◌≡◌, sym}
+use Rattle.image.proofs.Answers.{check-good}
+use Rattle.image.specs.Check.{refused, good, refusal_number, check_of}
+use Rattle.bank.specs.Views.{bank_number, view_of}
+use Rattle.bank.specs.Shows.{bank-ends}
 use Rattle.bank.proofs.view_of.Goals as goal
 
-pub returns : goal.returns
-returns c = made c.args.image.now c.part.result.now (bank_number c.args.bank) c.answer.result c.part.ensures c.answer.ensures
+pub bytes-requires : goal.bytes-requires
+bytes-requires c =
+    let a = c.args in
+    let e : good c.in-Ok.y ≡ check_of a.image.now = c.in-Ok.ensures in
+    rw (c.bank.ensures, c.number.ensures) (bank-ends _ a.image.now (bank_number a.bank) (check-good a.image.now _ (sym e)).header)
+
+pub returns-in-Ok : goal.returns-in-Ok
+unfolding view_of
+returns-in-Ok c =
+    let e : good c.in-Ok.y ≡ check_of c.args.image.now = c.in-Ok.ensures in
+    rw (c.bytes.ensures, c.bank.ensures, c.number.ensures, ← e)
+
+pub returns-in-Err : goal.returns-in-Err
+unfolding view_of
+returns-in-Err c =
+    let e : refused (refusal_number c.in-Err.refusal) ≡ check_of c.args.image.now = c.in-Err.ensures in
+    rw (c.from.ensures, ← e)

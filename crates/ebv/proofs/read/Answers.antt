@@ -9,8 +9,8 @@ pub loop-k-init : goal.loop-k-init
 unfolding pointer_at
 loop-k-init c = (omega arith, omega arith, refl)
 
-pub returns-then-n-here : goal.returns-then-n-here
-returns-then-n-here c =
+pub returns-then-n-here-clause-says : goal.returns-then-n-here-clause-says
+returns-then-n-here-clause-says c =
     let l = c.loop-k in
     short _ _ _ l.k l.acc (omega arith) l.invariant.2 (omega arith)
 
@@ -20,8 +20,8 @@ overflow_mul-result c = omega (arith, small c.loop-k.k (omega arith))
 pub overflow_add-result : goal.overflow_add-result
 overflow_add-result c = omega (arith, small c.loop-k.k (omega arith))
 
-pub returns-then-g-lt128 : goal.returns-then-g-lt128
-returns-then-g-lt128 c =
+pub returns-then-g-lt128-clause-says : goal.returns-then-g-lt128-clause-says
+returns-then-g-lt128-clause-says c =
     let l = c.loop-k in
     ends _ _ _ l.k l.acc (omega arith) l.invariant.2 c.field-g.result c.field-g.ensures.0 (omega arith) (omega arith)
 
@@ -37,5 +37,5 @@ loop-k-preserved c =
     let g = c.field-g.result in
     (omega arith, grows l.k l.acc g l.invariant.1 c.field-g.ensures.1, goes _ _ _ l.k l.acc (omega arith) l.invariant.2 g c.field-g.ensures.0 (omega arith) (omega arith))
 
-pub returns : goal.returns
-returns c = none _ _ _ c.loop-k.k c.loop-k.acc (omega arith) c.loop-k.invariant.2
+pub returns-clause-says : goal.returns-clause-says
+returns-clause-says c = none _ _ _ c.loop-k.k c.loop-k.acc (omega arith) c.loop-k.invariant.2

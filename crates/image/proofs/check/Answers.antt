@@ -1,27 +1,23 @@
--- `image::check` meets its contract: each number is its answer, by `row-refused` and `row-good`. Assumes nothing.
-use Rattle.image.proofs.Answers.{row-refused, row-good, row-long, ready-is, ready-left}
+-- `image::check` meets its contract: a refusal is the check's, by `ready-refused`, and past it the image is good, by `ready-passed`. Assumes nothing.
+use Rattle.image.proofs.Answers.{ready-refused, ready-passed, row-good, row-long}
 use Rattle.image.specs.Check.{good}
+use Rattle.image.specs.Steps.{ready_number}
 use mathlib.Core.Path.{sym, ap, ◌∙◌}
+use Rattle.std.proofs.lemmas.Result.{err_from_is_err_and}
 use native.Mathlib.Omega.{arith}
 use Rattle.image.proofs.check.Goals as goal
+
+pub returns-in_err-ready : goal.returns-in_err-ready
+returns-in_err-ready c =
+    let p = err_from_is_err_and c.from_residual.result c.from_residual.ensures.1 in
+    rw (p.1, p.2) (ready-refused c.args.image.now _ (sym (ap ready_number c.in_err-ready.was) ∙ c.ready.ensures))
 
 pub read_layout-requires : goal.read_layout-requires
 read_layout-requires c =
     let m = c.args.image.now in
-    let r = c.in_default.in_default-own.rest in
-    row-long m (λ e. omega (arith, e, ready-left m c.ready.ensures r.0.0.1 r.0.1 r.1))
+    row-long m (λ e. omega (arith, e, ready-passed m _ (sym (ap ready_number c.in_ok-ready.was) ∙ c.ready.ensures)))
 
-pub returns-in-1 : goal.returns-in-1
-returns-in-1 c = let m = c.args.image.now in row-refused m 1 (ready-is m 1 (sym c.ready.ensures ∙ c.in-1.is) (omega arith)) (omega arith)
-
-pub returns-in-2 : goal.returns-in-2
-returns-in-2 c = let m = c.args.image.now in row-refused m 2 (ready-is m 2 (sym c.ready.ensures ∙ c.in-2.is) (omega arith)) (omega arith)
-
-pub returns-in-3 : goal.returns-in-3
-returns-in-3 c = let m = c.args.image.now in row-refused m 3 (ready-is m 3 (sym c.ready.ensures ∙ c.in-3.is) (omega arith)) (omega arith)
-
-pub returns-in_default : goal.returns-in_default
-returns-in_default c =
+pub returns : goal.returns
+returns c =
     let m = c.args.image.now in
-    let r = c.in_default.in_default-own.rest in
-    ap good c.read_layout.ensures ∙ row-good m (ready-left m c.ready.ensures r.0.0.1 r.0.1 r.1)
+    ap good c.read_layout.ensures ∙ row-good m (ready-passed m _ (sym (ap ready_number c.in_ok-ready.was) ∙ c.ready.ensures))

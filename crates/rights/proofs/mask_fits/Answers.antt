@@ -1,18 +1,16 @@
--- `rights::mask_fits` meets its contract. Invariant: the bits passed of blocks that don't exist are 0. Assumes nothing.
-use mathlib.Core.Path.{sym}
+-- `rights::mask_fits` meets its contract: each bit of a block that doesn't exist is asked. Assumes nothing.
+use Rattle.std.proofs.Common.{rules, ◌∙◌, ◌+◌, ◌-◌}
+use borrow.Author.Tests.{tests}
+use lib.Dec.{eqb}
+use Rattle.bits.specs.Bits.{bit_at}
+use Rattle.bits.proofs.All.{every_from_all}
 use Rattle.image.specs.Layout.{blocks_in}
-use native.Mathlib.Omega.{arith}
-use Rattle.rights.proofs.Masks.{mask-all, mask-not}
+use Rattle.rights.proofs.Masks.{mask-rest}
 use Rattle.rights.proofs.mask_fits.Goals as goal
-
-pub returns-then-bit-ne0 : goal.returns-then-bit-ne0
-returns-then-bit-ne0 c =
-    let l = c.loop-k in
-    let a = c.args in
-    sym (mask-not a.frame.now a.from a.at (blocks_in a.y) a.n l.k c.loop-k-test.true (rw (← c.bit.ensures.0) c.if-bit-ne0.true) (omega (arith, l.invariant.0, c.blocks-2.ensures.0, c.minus-k.ensures.0)))
 
 pub returns : goal.returns
 returns c =
-    let l = c.loop-k in
     let a = c.args in
-    sym (mask-all a.frame.now a.from a.at (blocks_in a.y) a.n (λ j s t. l.invariant.1 j (omega (arith, c.blocks-2.ensures.0, c.minus-k.ensures.0)) (omega arith)))
+    let s = c.saturating_sub-first.result in
+    every_from_all (λ k. eqb (bit_at a.frame.now (a.from + (s + k))) 0) (a.n - s) (λ x r q l k. search (rules, tests)) (search (rules, tests)) c.all.ensures.ran
+    ∙ mask-rest a.frame.now a.from a.at (blocks_in a.y) a.n s (search (rules, tests))

@@ -1,13 +1,14 @@
 -- `rights::rest_open` meets its contract: bank by bank. Assumes nothing.
-use Rattle.rights.proofs.Spans.{beyond-zero}
-use Rattle.bits.proofs.Below.{every-all}
-use borrow.Author.Tests.{ne_eqb}
+use Rattle.std.proofs.Common.{rules}
+use borrow.Author.Tests.{tests}
 use mathlib.Core.Bool.{and-true}
-use mathlib.Core.Path.{refl, sym}
+use mathlib.Core.Path.{sym}
+use Rattle.bits.proofs.Below.{every-all}
+use Rattle.rights.proofs.Spans.{beyond-zero}
 use Rattle.rights.proofs.rest_open.Goals as goal
 
-pub returns-then-b-eq1 : goal.returns-then-b-eq1
-returns-then-b-eq1 c = rw c.if-b-eq1.true (simp and-true (beyond-zero _ _ c.requires.1))
+pub returns-in-1 : goal.returns-in-1
+returns-in-1 c = rw c.in-1.is (simp and-true (beyond-zero _ _ c.requires.1))
 
-pub returns : goal.returns
-returns c = simp (ne_eqb _ _ c.if-b-eq1.false, ne_eqb _ _ c.if-b-eq2.false, ne_eqb _ _ c.if-b-eq3.false) (sym (every-all _ c.args.n (λ j h. refl)))
+pub returns-in_default : goal.returns-in_default
+returns-in_default c = sym (every-all _ c.args.n (λ j h. search (rules, tests)))
