@@ -24,7 +24,7 @@ pub made-same : (w : ℕ) (f g : ℕ → Store) (c : ℕ) {s k : ℕ} {m n : Lis
     → Made (change_stores w (below g c)) s m n k
 made-same w f g c {s} {k} {m} {n} h p = subst (λ (xs : List Store). Made (change_stores w xs) s m n k) (below-same f g c h) p
 
-zero-byte : (k : ℕ) → ◌≡◌ {A = ℕ} (get_or (0 ∷ []) k 0) 0
+pub zero-byte : (k : ℕ) → ◌≡◌ {A = ℕ} (get_or (0 ∷ []) k 0) 0
 zero-byte zero = refl
 zero-byte (suc k) = refl
 

@@ -1,6 +1,6 @@
 -- What each command comes to that the session lets pass (RULES 3.9, 3.12 to 3.15, 3.20 to 3.22 and 11.3 to 11.6), one after the other.
 -- Assumes nothing.
-use Rattle.std.specs.Prelude.{ℕ, ◌+◌, ◌-◌, ◌*◌, cond, List, [], ◌∷◌, eqb}
+use Rattle.std.specs.Prelude.{Result, Ok, Err, ℕ, ◌+◌, ◌-◌, ◌*◌, cond, List, [], ◌∷◌, eqb}
 use Rattle.std.specs.Int.Bits.{bit_or}
 use Rattle.bits.specs.Words.{word_at, Store, store}
 use Rattle.bits.specs.Bits.{field_at}
@@ -12,8 +12,7 @@ use Rattle.frames.specs.declared.Order.{Order}
 use Rattle.frames.specs.declared.Order.TheVariants as order
 use Rattle.replies.specs.declared.Reply.{Reply}
 use Rattle.replies.specs.declared.Reply.TheVariants as reply
-use Rattle.rights.specs.declared.Code.{Code}
-use Rattle.rights.specs.declared.Code.TheVariants as code
+use Rattle.rights.specs.declared.Fault.{Fault}
 use Rattle.rights.specs.declared.Fault.TheVariants as fault
 use Rattle.rights.specs.Rights.{bank_of, span_words, read_code, write_code, locked_to, lock_code, perma_read_code, perma_code}
 use Rattle.states.specs.declared.Flags.{Flags}
@@ -35,7 +34,7 @@ pub record Scene : Type 0 where
 
 -- what it comes to: its error code, if one applies; else flags, state, the reply and the words stored, in rising order
 pub record Effect : Type 0 where
-  pub code : Code
+  pub code : Result Unit Fault
   pub flags : Flags
   pub state : State
   pub reply : Reply
@@ -43,9 +42,9 @@ pub record Effect : Type 0 where
 
 -- the flags stay
 abbrev pub does : Scene → State → Reply → List Store → Effect
-does c st r ws = record { code = code.Nothing; flags = c.flags; state = st; reply = r; words = ws }
+does c st r ws = record { code = Ok tt; flags = c.flags; state = st; reply = r; words = ws }
 
-abbrev pub unless : Code → Effect → Effect
+abbrev pub unless : Result Unit Fault → Effect → Effect
 unless e x = record { code = e; flags = x.flags; state = x.state; reply = x.reply; words = x.words }
 
 abbrev pub handle_in : Scene → ℕ
@@ -56,7 +55,7 @@ abbrev pub drawn_reply : State → Reply
 drawn_reply st = cond (is_reply st) (reply.Drawn (link_of st).handle) reply.Silence
 
 abbrev pub turns : Flags → State → Effect
-turns f st = record { code = code.Nothing; flags = f; state = st; reply = drawn_reply st; words = [] }
+turns f st = record { code = Ok tt; flags = f; state = st; reply = drawn_reply st; words = [] }
 
 -- 3.14: a word or half as sent, without its cover
 abbrev pub bare : Scene → ℕ → ℕ
@@ -85,7 +84,7 @@ place_of y s = (bank_of y s.bank).at + s.pointer
 -- second is right was asked before (`halves_of`), and where a half of the other password waits the answer was 14: the last line never counts
 abbrev pub half_kill : Scene → ℕ → Half → Effect
 half_kill c h half.Nothing =
-    unless (cond (zero_kill c.layout c.image) (code.Error fault.Other) code.Nothing) (waits c (half.Kill (bare c h)))
+    unless (cond (zero_kill c.layout c.image) (Err fault.Other) (Ok tt)) (waits c (half.Kill (bare c h)))
 half_kill c h (half.Kill up) = does c state.Killed (reply.Success (handle_in c)) (store (c.layout.status.at + 1) 1 ∷ [])
 half_kill c h (half.Access up) = does c c.state (reply.Number (handle_in c)) []
 

@@ -269,7 +269,7 @@ fn mask_fits(y: Layout, at: usize, frame: &[u8], from: usize, n: usize) -> bool
     (0..n.saturating_sub(first)).all(|k| bits::bit(frame, from + (first + k)) == 0)
 }
 
-// An image that has a header.
+// An image that has a header. Whether the tag is Secured is asked by two of its methods alone, so it is no field.
 #[derive(Clone, Copy)]
 pub struct Memory<'a> {
     pub image: &'a [u8],

@@ -24,7 +24,6 @@ use Rattle.bits.specs.Below.{below}
 use Rattle.bits.proofs.Below.{length-below}
 use Rattle.stores.specs.Stores.{staged, finished, change_stores, epc_crc, settling, power_stores}
 use Rattle.stores.specs.Steps.{Ran, Made, Announced, announced, pair_in, pairs_at, word_from, chosen_at, chosen}
-use Rattle.stores.specs.declared.Staged.{Staged}
 use Rattle.stores.proofs.Runs.{shifted, shifted-append, shifted-staged, length-staged, ran-tail, ran_append, ran_out, ran-whole, ran-made}
 use Rattle.stores.proofs.Pairs.{announced-pairs}
 
@@ -62,15 +61,15 @@ change-one w m x {s} {l} {t = t} size a b c =
     (ran_append (subst (λ (xs : List Store). Ran xs s m (whole w m t) l) (shifted-announced w (x ∷ []) (omega arith)) (ran-tail w m size a)) (ran_append b c))
 
 -- pairs and count in the part from WORK on, and what follows in the whole
-module _ (w : ℕ) (m : List ℕ) (size : 2 * w ≤ length m) {xs : List Store} {s : ℕ} {t : List ℕ} {r : Staged}
-    (a : Announced xs s (take (length m - 2 * w) (drop (2 * w) m)) t r) where
-  ran-head : 0 < length xs → Ran (head w xs) s m (whole w m t) r.left
-  ran-head h = subst (λ (l : List Store). Ran l s m (whole w m t) r.left) (shifted-announced w xs h) (ran-tail w m size a.ran)
+module _ (w : ℕ) (m : List ℕ) (size : 2 * w ≤ length m) {xs : List Store} {s : ℕ} {t : List ℕ} {l k : ℕ}
+    (a : Announced xs s (take (length m - 2 * w) (drop (2 * w) m)) t l k) where
+  ran-head : 0 < length xs → Ran (head w xs) s m (whole w m t) l
+  ran-head h = subst (λ (ys : List Store). Ran ys s m (whole w m t) l) (shifted-announced w xs h) (ran-tail w m size a.ran)
 
-  pub change-none : r.pairs ≡ 0 → Made (change_stores w xs) s m (whole w m t) 0
+  pub change-none : k ≡ 0 → Made (change_stores w xs) s m (whole w m t) 0
   change-none z = go xs a.pairs (ran-tail w m size a.ran)
     where
-      go : (xs : List Store) → r.pairs ≡ length xs → Ran (shifted w (announced xs)) s m (whole w m t) r.left
+      go : (xs : List Store) → k ≡ length xs → Ran (shifted w (announced xs)) s m (whole w m t) l
           → Made (change_stores w xs) s m (whole w m t) 0
       go [] q p = record { image = p.image; made = omega arith }
       go (x ∷ xs) q p = absurd (omega arith)
@@ -82,30 +81,30 @@ module _ (w : ℕ) (m : List ℕ) (size : 2 * w ≤ length m) {xs : List Store} 
       go [] h = absurd (omega arith)
       go (x ∷ xs) h = refl
 
-  pub change-cut : 0 < length xs → r.left ≡ 0 → Made (change_stores w xs) s m (whole w m t) s
+  pub change-cut : 0 < length xs → l ≡ 0 → Made (change_stores w xs) s m (whole w m t) s
   change-cut h z =
       let p = ran_append (rw z at (ran-head h)) (ran_out (finished w xs) (whole w m t)) in
-      let k : s - 0 ≡ s = omega arith in
-      rw (stores-split h) (rw k at (ran-made p))
+      let e : s - 0 ≡ s = omega arith in
+      rw (stores-split h) (rw e at (ran-made p))
 
   -- with power left the pairs stand in WORK
-  pub change-pairs : 0 < length xs → (r.left ≡ 0 → ⊥) → 2 * (w + 1 + 2 * length xs) ≤ length m → pairs_at w (whole w m t) (length xs) ≡ xs
-  change-pairs h n l =
+  pub change-pairs : 0 < length xs → (l ≡ 0 → ⊥) → 2 * (w + 1 + 2 * length xs) ≤ length m → pairs_at w (whole w m t) (length xs) ≡ xs
+  change-pairs h n q =
       let p = ran-head h in
       let e : length (head w xs) ≡ 2 * length xs + 1 = simp (length-append, length-staged) in
-      rw (ran-whole p (omega (arith, p.rest))) (announced-pairs m w (length xs) xs l)
+      rw (ran-whole p (omega (arith, p.rest))) (announced-pairs m w (length xs) xs q)
 
-  pub change-whole : {n : List ℕ} {l : ℕ} → 0 < length xs → (r.left ≡ 0 → ⊥) → 2 * (w + 1 + 2 * length xs) ≤ length m
-      → Ran (finished w (pairs_at w (whole w m t) (length xs))) r.left (whole w m t) n l
-      → Made (change_stores w xs) s m n (s - l)
-  change-whole h n l p = rw (stores-split h) (ran-made (ran_append (ran-head h) (rw (change-pairs h n l) at p)))
+  pub change-whole : {n : List ℕ} {r : ℕ} → 0 < length xs → (l ≡ 0 → ⊥) → 2 * (w + 1 + 2 * length xs) ≤ length m
+      → Ran (finished w (pairs_at w (whole w m t) (length xs))) l (whole w m t) n r
+      → Made (change_stores w xs) s m n (s - r)
+  change-whole h n q p = rw (stores-split h) (ran-made (ran_append (ran-head h) (rw (change-pairs h n q) at p)))
 
   -- and their words lie below it
-  pub change-under : 0 < length xs → (r.left ≡ 0 → ⊥) → 2 * (w + 1 + 2 * length xs) ≤ length m → Under w xs
+  pub change-under : 0 < length xs → (l ≡ 0 → ⊥) → 2 * (w + 1 + 2 * length xs) ≤ length m → Under w xs
       → (j : ℕ) → j < length xs → word_at (whole w m t) (w + 1 + 2 * j) < w
-  change-under h n l u j k =
+  change-under h n q u j b =
       let n₁ = whole w m t in
-      below_all (λ s. s.at < w) (pair_in w n₁) (length xs) (subst (λ (ys : List Store). Under w ys) (sym (change-pairs h n l)) u) j k
+      below_all (λ s. s.at < w) (pair_in w n₁) (length xs) (subst (λ (ys : List Store). Under w ys) (sym (change-pairs h n q)) u) j b
 
 -- a last store whose value is read off the image that the stores before it made; a cut before it leaves the value without use
 pub ran_then : (xs : List Store) (i : ℕ) (v : List ℕ → ℕ) (k : ℕ) {s l : ℕ} {m n o : List ℕ} → Ran xs s m n k → Ran (store i (v n) ∷ []) k n o l

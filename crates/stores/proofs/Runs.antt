@@ -18,7 +18,6 @@ use Rattle.bits.specs.Below.{below}
 use Rattle.bits.proofs.Words.{drop-with, take-with, word-with-other}
 use Rattle.bits.proofs.Stores.{length-after}
 use Rattle.stores.specs.Stores.{staged, finished}
-use Rattle.stores.specs.declared.Staged.{Staged}
 use Rattle.stores.specs.Steps.{Ran, Made, StagedTo, Announced, word_from, chosen_at, chosen}
 
 -- the first s of two lists of stores
@@ -124,17 +123,17 @@ length-staged a (x ∷ xs) = rw (length-staged (a + 2) xs) (omega arith)
 
 -- one word staged or passed over, and one more of several
 module _ (o : ℕ) (d : List ℕ) (p : ℕ) (z : List ℕ) (j : ℕ) where
-  pub passed : {b : ℕ} (k s : ℕ) (m : List ℕ) → b ≡ get_or z j 0 → (b ≡ 0 → ⊥) → StagedTo k (chosen_at o d p z j) s m m (record { left = s; pairs = k })
+  pub passed : {b : ℕ} (k s : ℕ) (m : List ℕ) → b ≡ get_or z j 0 → (b ≡ 0 → ⊥) → StagedTo k (chosen_at o d p z j) s m m s k
   passed k s m e h =
       let n : get_or z j 0 ≡ 0 → ⊥ = λ q. h (e ∙ q) in
       rw (ne_eqb (get_or z j 0) 0 n) (record { ran = ran-none s m; pairs = omega arith })
 
   pub chose : {b v : ℕ} (k s l : ℕ) {m n : List ℕ} → b ≡ get_or z j 0 → b ≡ 0 → v ≡ field_at d (p + 16 * j) 16
-      → Ran (staged (1 + 2 * k) (store (o + j) v ∷ [])) s m n l → StagedTo k (chosen_at o d p z j) s m n (record { left = l; pairs = k + 1 })
+      → Ran (staged (1 + 2 * k) (store (o + j) v ∷ [])) s m n l → StagedTo k (chosen_at o d p z j) s m n l (k + 1)
   chose k s l e h q r = rw (eq-eqb (get_or z j 0) 0 (sym e ∙ h)) (record { ran = rw q at r; pairs = refl })
 
-  pub chose-more : {s k l k₁ l₁ : ℕ} {a b c : List ℕ} → StagedTo 0 (chosen o d p z j) s a b (record { left = l; pairs = k })
-      → StagedTo k (chosen_at o d p z j) l b c (record { left = l₁; pairs = k₁ }) → StagedTo 0 (chosen o d p z (j + 1)) s a c (record { left = l₁; pairs = k₁ })
+  pub chose-more : {s k l k₁ l₁ : ℕ} {a b c : List ℕ} → StagedTo 0 (chosen o d p z j) s a b l k
+      → StagedTo k (chosen_at o d p z j) l b c l₁ k₁ → StagedTo 0 (chosen o d p z (j + 1)) s a c l₁ k₁
   chose-more {s} {k} f g =
       let e : 1 + 2 * 0 + 2 * length (chosen o d p z j) ≡ 1 + 2 * k = omega (arith, f.pairs) in
       rw (add-one j)
@@ -162,14 +161,14 @@ ran-finished w [] h p q = absurd (omega arith)
 ran-finished w (x ∷ xs) h p q = ran_append p q
 
 -- pairs, then their count
-pub ran-announced : (xs : List Store) {s k l n : ℕ} {a b c : List ℕ} → (n ≡ 0 → ⊥) → StagedTo 0 xs s a b (record { left = k; pairs = n })
-    → Ran (store 0 n ∷ []) k b c l → Announced xs s a c (record { left = l; pairs = n })
+pub ran-announced : (xs : List Store) {s k l n : ℕ} {a b c : List ℕ} → (n ≡ 0 → ⊥) → StagedTo 0 xs s a b k n
+    → Ran (store 0 n ∷ []) k b c l → Announced xs s a c l n
 ran-announced [] {n = n} h p q = absurd (h p.pairs)
 ran-announced (x ∷ xs) {n = n} h p q =
     let e : length (x ∷ xs) ≡ n = omega (arith, p.pairs) in
     record { ran = rw e (ran_append p.ran q); pairs = omega arith }
 
-pub none-announced : (xs : List Store) {s : ℕ} {a b : List ℕ} {r : Staged} → r.pairs ≡ 0 → StagedTo 0 xs s a b r → Announced xs s a b r
+pub none-announced : (xs : List Store) {s : ℕ} {a b : List ℕ} {l p : ℕ} → p ≡ 0 → StagedTo 0 xs s a b l p → Announced xs s a b l p
 none-announced [] h p = record { ran = p.ran; pairs = h }
 none-announced (x ∷ xs) h p = absurd (omega (arith, p.pairs))
 

@@ -4,7 +4,6 @@ use Rattle.bits.specs.Words.{word_at, Store, store, after}
 use Rattle.bits.specs.Bits.{field_at}
 use Rattle.bits.specs.Below.{below}
 use Rattle.stores.specs.Stores.{staged}
-use Rattle.stores.specs.declared.Staged.{Staged}
 
 -- with power for s stores, the stores xs make n of m, and leave power for l
 pub record Ran (xs : List Store) (s : ℕ) (m n : List ℕ) (l : ℕ) : Type 0 where
@@ -35,16 +34,16 @@ abbrev pub chosen : ℕ → List ℕ → ℕ → List ℕ → ℕ → List Store
 chosen o d p z zero = []
 chosen o d p z (suc n) = chosen o d p z n ++ chosen_at o d p z n
 
--- after k pairs, the pairs xs are staged in a work area
-pub record StagedTo (k : ℕ) (xs : List Store) (s : ℕ) (m n : List ℕ) (r : Staged) : Type 0 where
-  pub ran : Ran (staged (1 + 2 * k) xs) s m n r.left
-  pub pairs : r.pairs ≡ k + length xs
+-- after k pairs, the pairs xs are staged in a work area, in which p stand then
+pub record StagedTo (k : ℕ) (xs : List Store) (s : ℕ) (m n : List ℕ) (l p : ℕ) : Type 0 where
+  pub ran : Ran (staged (1 + 2 * k) xs) s m n l
+  pub pairs : p ≡ k + length xs
 
 -- the pairs xs and their count, in a work area; nothing where there is no pair
 abbrev pub announced : List Store → List Store
 announced [] = []
 announced (x ∷ xs) = staged 1 (x ∷ xs) ++ (store 0 (length (x ∷ xs)) ∷ [])
 
-pub record Announced (xs : List Store) (s : ℕ) (m n : List ℕ) (r : Staged) : Type 0 where
-  pub ran : Ran (announced xs) s m n r.left
-  pub pairs : r.pairs ≡ length xs
+pub record Announced (xs : List Store) (s : ℕ) (m n : List ℕ) (l p : ℕ) : Type 0 where
+  pub ran : Ran (announced xs) s m n l
+  pub pairs : p ≡ length xs

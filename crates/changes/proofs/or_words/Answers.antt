@@ -14,4 +14,4 @@ pub loop-j-preserved : goal.loop-j-preserved
 loop-j-preserved c = let a = c.args in
     let l = c.loop-j in
     let e = c.store_word.ensures in
-    (omega arith, ap length e ∙ length-with _ _ _ ∙ l.invariant.1, rw e (next_word _ l.j _ (λ i. bit_or (word_at a.image.now (a.at + i)) (field_at a.frame.now (a.from + 16 * i) 16)) (omega (arith, l.invariant.1)) (ap₂ bit_or c.word-old.ensures c.field-mask.ensures.0) l.invariant.2))
+    (ap length e ∙ length-with _ _ _ ∙ l.invariant.0, rw e (next_word _ l.j _ (λ i. bit_or (word_at a.image.now (a.at + i)) (field_at a.frame.now (a.from + 16 * i) 16)) (omega (arith, l.invariant.0)) (ap₂ bit_or c.word-old.ensures c.field-mask.ensures.0) l.invariant.1))
