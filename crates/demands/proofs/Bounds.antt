@@ -28,6 +28,7 @@ use Rattle.states.specs.declared.State.TheVariants as state
 use Rattle.states.specs.Commands.{link_of, slot_of, state_number, is_reply, was_acknowledged, zero_access, with_link, used, fallen, plain_link}
 use Rattle.states.specs.Inventory.{drawn, slot_from, matches, queried_flags, adjusted_q, counted_down}
 use Rattle.plans.specs.Effects.{Scene, Effect, half_kill, half_access, effect_of}
+use Rattle.tag.specs.declared.Live.{Live}
 use Rattle.tag.specs.Result.{Result, first_of}
 use Rattle.tag.specs.Power.{power_up_of}
 use Rattle.tag.specs.Table.{live_of, command_in, scene, frame_of}

@@ -60,7 +60,7 @@ use Rattle.demands.proofs.Terms.{terms-so}
 use Rattle.tag.specs.Port.{bad_count, bad_data, refusals, with_killed, with_unwritten, some_unwritten, written_words, read_bits, port_words, ask_of, release_of, register_of, read_of, write_of}
 use Rattle.demands.specs.Calls.{Aside, awake, answer_of, Idle}
 use Rattle.demands.specs.Commands.{Air, answers_to, linked, link, registered, flagged, quiet, shows_epc, obeyed, Turns, Does, Rounds, Radio, NoImage, Transfers, Demand2}
-use Rattle.demands.proofs.Rows.{Rows, None, none_first}
+use Rattle.demands.proofs.Rows.{Rows, None as NoRow, none_first}
 use Rattle.demands.proofs.Cuts.{started-so}
 use Rattle.demands.proofs.Rounds.{slotted-session, singled-session, first_step, matches-so, matches-not, adjusts-so, says-up-down, counts-so, selects-so, selects-not, taken-choice}
 use Rattle.demands.proofs.Codes.{and-false, words-shown, read-clear, write-clear, lock-clear, perma-read-clear, perma-clear}
@@ -147,7 +147,7 @@ module _ (a : Air) (st : State) (r : Aside) (idle : Idle (layout_of a.image) a.i
     unfolding handed
     halves-is = ap (λ (x : Message). halves_of (layout_of a.image) a.image st (command_in x).order) h ∙ b
 
-    none : None (frame_of change_stores handed).rows
+    none : NoRow (frame_of change_stores handed).rows
     unfolding frame_of handed comes
     none =
         let i = check-0 a.image (layout_of a.image) (sym idle.sound) in (
@@ -499,7 +499,7 @@ module _ (m : List ℕ) (st : State) (r : Aside) (idle : Idle (layout_of m) m) w
   holder : Session
   holder = awake st true r
 
-  past : (room : List ℕ) (bad : Bool) (rest : Rows) → bad ≡ false → None rest → None (refusals holder m room bad ++ rest)
+  past : (room : List ℕ) (bad : Bool) (rest : Rows) → bad ≡ false → NoRow rest → None (refusals holder m room bad ++ rest)
   unfolding holder
   past room bad rest e h =
       let c = check-0 m (layout_of m) (sym idle.sound) in

@@ -54,7 +54,7 @@ use Rattle.tag.specs.declared.Session.{Session}
 use Rattle.tag.specs.Session.{off_session}
 use Rattle.tag.specs.Result.{Result, leaves, lost}
 use Rattle.states.specs.Commands.{bad_choice, bad_up_dn, is_killed, asks_of, link_of, is_covered, uncovered, wrong_by, zero_kill, kill_word, halves_row, halves_of, used, fallen}
-use Rattle.states.specs.Steps.{asks, wrong_command}
+use Rattle.states.specs.Steps.{wrong_command}
 use Rattle.plans.specs.Effects.{Scene, Effect, effect_of}
 use Rattle.tag.specs.Table.{Input, halves, effect, is_error, reply_or, reply_of, fits, everything, frame_of, live_of, is_off, refused_by, command_in, command, scene}
 use Rattle.tag.specs.Power.{power_up_of}
@@ -71,6 +71,10 @@ use Rattle.demands.proofs.Codes as codes
 use Rattle.demands.proofs.Rounds.{slotted-session, singled-session}
 use Rattle.demands.specs.Refusals.{stays, drops, errs, Covered, Addressed, Needs, Other, Waits, Brings, OutOfPlace, Dropped, Errors, Locks, NoImageRefused, BadCount, TransferRefused, PortRefused, Refusals}
 use Rattle.tag.specs.Steps.{input}
+
+-- what an order asks, field by field
+abbrev asks : Who → Bool → Bool → Part → Asks
+asks who cover bad part = record { who = who; cover = cover; bad = bad; part = part }
 
 -- an image that is not good: its number's row, whatever comes after
 image-first : (m : List ℕ) (leaving : ℕ → Result) (more : Rows) (last : Result) (n : ℕ) → check_of m ≡ refused n → first (image_rows leaving m ++ more) last ≡ leaving n

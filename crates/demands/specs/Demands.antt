@@ -18,6 +18,7 @@ use Rattle.stores.specs.Cuts.{Cut, reaches}
 use Rattle.frames.specs.declared.Round.{Round}
 use Rattle.states.specs.declared.State.{State}
 use Rattle.states.specs.declared.State.TheVariants as state
+use Rattle.tag.specs.declared.Live.{Live}
 use Rattle.tag.specs.declared.Session.{Session}
 use Rattle.tag.specs.declared.Outcome.{Outcome}
 use Rattle.tag.specs.Session.{off_session}

@@ -155,7 +155,7 @@ abbrev covered : Link
 covered = record { round = round; handle = 0x1234; cover = Some 0x5A5A; half = None }
 
 abbrev halfway : Link
-halfway = record { round = round; handle = 0x1234; cover = Some 0x5A5A; half = half.Access 0 }
+halfway = record { round = round; handle = 0x1234; cover = Some 0x5A5A; half = Some (half.Access 0) }
 
 abbrev opened : Session
 opened = awake_in new_flags (state.Open (plain_link round 0x1234))

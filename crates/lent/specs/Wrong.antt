@@ -14,6 +14,7 @@ use Rattle.stores.specs.Stores.{power_stores, change_stores}
 use Rattle.states.specs.declared.State.{State}
 use Rattle.states.specs.declared.State.TheVariants as state
 use Rattle.states.specs.Commands.{no_round, state_number}
+use Rattle.tag.specs.declared.Live.{Live}
 use Rattle.tag.specs.declared.Session.{Session}
 use Rattle.tag.specs.declared.Outcome.{Outcome}
 use Rattle.tag.specs.Session.{off_session, new_flags, new_session, on, clear}
