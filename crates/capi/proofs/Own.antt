@@ -1,4 +1,5 @@
 -- A read by the record alone: its session's answer, the record itself, and the record afterwards. Assumes nothing.
+use Rattle.std.specs.Prelude.{Option, None, Some}
 use Prim.Native.Nat.{ℕ, ◌+◌, ◌*◌}
 use mathlib.Core.Path.{◌≡◌, refl, sym, ap, ◌∙◌, subst}
 use mathlib.Core.Bool.{true≢false, Bool, true, false, cond, not}
@@ -11,8 +12,6 @@ use Rattle.states.specs.declared.Record.{Record}
 use Rattle.states.specs.Commands.{is_killed}
 use Rattle.states.specs.Numbers.{numbers_in}
 use Rattle.tag.specs.declared.Live.{Live}
-use Rattle.tag.specs.declared.Power.{Power}
-use Rattle.tag.specs.declared.Power.TheVariants as power
 use Rattle.tag.specs.declared.Session.{Session}
 use Rattle.tag.specs.Table.{is_off, live_of}
 use Rattle.tag.specs.Port.{bit_of, with_killed}
@@ -54,9 +53,9 @@ pub row-port : (h : ℕ) (m : List ℕ) (at count n : ℕ) → read_row h m at c
 row-port h m at count n e = own-zero h m at count n (row_none h m at count n e).0
 
 -- a session under power is that of its numbers
-own_of : (v : Numbers) (l : Live) → (session_of v).power ≡ power.On l → numbers_on l ≡ v
+own_of : (v : Numbers) (l : Live) → (session_of v).power ≡ Some l → numbers_on l ≡ v
 own_of v l e =
-    subst (λ (p : Power). numbers_of p ≡ v) e
+    subst (λ (p : Option Live). numbers_of p ≡ v) e
     (only v (λ q. true≢false (sym (ap (λ (s : Session). is_off s.power) q) ∙ ap is_off e)))
 
 -- the number by which a record tells its session
@@ -67,9 +66,9 @@ number-on false = refl
 pub own-record : (r : Record) {h : ℕ} → h ≡ held_row (session_of (numbers_in r)).power → numbers_in (cond (eqb h 5) off_record r) ≡ numbers_of (session_of (numbers_in r)).power
 own-record r {h} e = go (session_of (numbers_in r)).power refl
   where
-    go : (p : Power) → (session_of (numbers_in r)).power ≡ p → numbers_in (cond (eqb h 5) off_record r) ≡ numbers_of (session_of (numbers_in r)).power
-    go power.Off q = ap (λ (n : ℕ). numbers_in (cond (eqb n 5) off_record r)) (e ∙ ap held_row q) ∙ sym (ap numbers_of q)
-    go (power.On l) q =
+    go : (p : Option Live) → (session_of (numbers_in r)).power ≡ p → numbers_in (cond (eqb h 5) off_record r) ≡ numbers_of (session_of (numbers_in r)).power
+    go None q = ap (λ (n : ℕ). numbers_in (cond (eqb n 5) off_record r)) (e ∙ ap held_row q) ∙ sym (ap numbers_of q)
+    go (Some l) q =
         ap (λ (b : Bool). numbers_in (cond b off_record r)) (ap (λ (n : ℕ). eqb n 5) (e ∙ ap held_row q) ∙ number-on l.held)
         ∙ sym (own_of (numbers_in r) l q)
         ∙ sym (ap numbers_of q)
@@ -87,25 +86,25 @@ killed-on l =
     λ i. record { state = v.state; held = v.held; reg = bit-set l.register.unwritten l.register.killed i; covered = v.covered; half = v.half; round = v.round; q = v.q; flags = v.flags; number = v.number; cover = v.cover; upper = v.upper; slot = v.slot }
 
 module _ (v : Numbers) {h : ℕ} (e : h ≡ held_row (session_of v).power) (z : h ≡ 0) where
-  off-never : (session_of v).power ≡ power.Off → ⊥
+  off-never : (session_of v).power ≡ None → ⊥
   off-never q = let five : ◌≡◌ {A = ℕ} 5 0 = sym (e ∙ ap held_row q) ∙ z in eqb-false 5 0 refl five
 
   pub dead-state : eqb v.state 7 ≡ is_killed (live_of (session_of v).power).state
   dead-state = go (session_of v).power refl
     where
-      go : (p : Power) → (session_of v).power ≡ p → eqb v.state 7 ≡ is_killed (live_of (session_of v).power).state
-      go power.Off q = absurd (off-never q)
-      go (power.On l) q =
+      go : (p : Option Live) → (session_of v).power ≡ p → eqb v.state 7 ≡ is_killed (live_of (session_of v).power).state
+      go None q = absurd (off-never q)
+      go (Some l) q =
           ap (λ (x : Numbers). eqb x.state 7) (sym (own_of v l q))
-          ∙ sym (ap (λ (p : Power). is_killed (live_of p).state) q)
+          ∙ sym (ap (λ (p : Option Live). is_killed (live_of p).state) q)
 
   pub numbers_after : (k : Bool) → cond k (killed_numbers v) v ≡ numbers_of (cond k (after_killed (session_of v).power) (session_of v)).power
   numbers_after k = go (session_of v).power refl k
     where
-      go : (p : Power) → (session_of v).power ≡ p → (k : Bool) → cond k (killed_numbers v) v ≡ numbers_of (cond k (after_killed (session_of v).power) (session_of v)).power
-      go power.Off q k = absurd (off-never q)
-      go (power.On l) q true =
+      go : (p : Option Live) → (session_of v).power ≡ p → (k : Bool) → cond k (killed_numbers v) v ≡ numbers_of (cond k (after_killed (session_of v).power) (session_of v)).power
+      go None q k = absurd (off-never q)
+      go (Some l) q true =
           ap killed_numbers (sym (own_of v l q))
           ∙ killed-on l
-          ∙ sym (ap (λ (p : Power). numbers_of (after_killed p).power) q)
-      go (power.On l) q false = sym (own_of v l q) ∙ sym (ap numbers_of q)
+          ∙ sym (ap (λ (p : Option Live). numbers_of (after_killed p).power) q)
+      go (Some l) q false = sym (own_of v l q) ∙ sym (ap numbers_of q)

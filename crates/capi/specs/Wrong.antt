@@ -1,6 +1,6 @@
 -- Records that are no session, and for each exported operation two wrong answers that its promise rules out, computed (RULES 10.3 and
 -- 10.6). Assumes nothing.
-use Rattle.std.specs.Prelude.{ℕ, ◌+◌, ◌*◌, ◌^◌, ◌≡◌, refl, true, false, [], ◌∷◌, replicate}
+use Rattle.std.specs.Prelude.{ℕ, ◌+◌, ◌*◌, ◌^◌, ◌≡◌, refl, true, false, [], ◌∷◌, replicate, None, Some}
 use Rattle.std.proofs.Common.{sym, ap, ◌∙◌, arith}
 use Rattle.bits.specs.Words.{word_at, with_word}
 use Rattle.bits.specs.Bits.{field_at, bits_of, words_bits}
@@ -12,7 +12,6 @@ use Rattle.image.specs.Worked.{worked}
 use Rattle.frames.specs.Frames.{heard_of}
 use Rattle.replies.specs.Pack.{filled, packed as bits_packed}
 use Rattle.stores.specs.Stores.{power_stores, change_stores}
-use Rattle.states.specs.declared.Cover.TheVariants as cover
 use Rattle.states.specs.declared.Half.TheVariants as half
 use Rattle.states.specs.declared.State.TheVariants as state
 use Rattle.states.specs.declared.Numbers.{Numbers}
@@ -61,7 +60,7 @@ read r = session_of (numbers_in r)
 -- is neither 0 nor 1, a register of more than two bits, flags of more than five
 pub record Readings : Type 0 where
   pub whole : read (record { low = 0x140D050201030006; high = 0x9ABC56781234 })
-      ≡ on (record { s0 = false; s1 = false; s2 = true; s3 = false; sl = true }) (state.Secured (record { round = record { session = 5; q = 13 }; handle = 0x1234; cover = cover.Number 0x5678; half = half.Kill 0x9ABC })) false (record { unwritten = true; killed = true })
+      ≡ on (record { s0 = false; s1 = false; s2 = true; s3 = false; sl = true }) (state.Secured (record { round = record { session = 5; q = 13 }; handle = 0x1234; cover = Some 0x5678; half = Some (half.Kill 0x9ABC) })) false (record { unwritten = true; killed = true })
   pub by_parts : linked 1 2 0x5678 0x9ABC ≡ record { low = 0x140D050201030006; high = 0x9ABC56781234 }
   pub waiting : read (rounds 2 3 11 0x6789) ≡ new_session (state.Arbitrate (record { session = 3; q = 11 }) 0x6789)
   pub flags : read (flagged 1 9) ≡ on (record { s0 = true; s1 = false; s2 = false; s3 = true; sl = false }) state.Ready false (record { unwritten = false; killed = true })
@@ -188,7 +187,7 @@ pub other : (x a b : ℕ) → x ≡ a → (a ≡ b → ⊥) → x ≡ b → ⊥
 other x a b e n f = n (sym e ∙ f)
 
 -- a half of Access that is written as one of Kill
-pub halves-swapped : (numbers_of (new_session (state.Secured (record { round = record { session = 0; q = 0 }; handle = 0x1234; cover = cover.Nothing; half = half.Access 0x9ABC }))).power).half ≡ 2 → ⊥
+pub halves-swapped : (numbers_of (new_session (state.Secured (record { round = record { session = 0; q = 0 }; handle = 0x1234; cover = None; half = Some (half.Access 0x9ABC) }))).power).half ≡ 2 → ⊥
 halves-swapped = other _ 1 2 refl (λ z. omega (arith, z))
 
 -- a check that refuses the worked image, and one that hides its layout

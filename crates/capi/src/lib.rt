@@ -106,7 +106,7 @@ pub extern "C" fn tag_check(image: &[u8]) -> Sheet
 pub extern "C" fn tag_power_up(image: &mut [u8], s: usize) -> Told
     ensures { told result image.new [] ≡ in_numbers (first_of (power_up_of image.old s)) }
 {
-    records::outcome(tag::power_up(image, s))
+    Told::from(tag::power_up(image, s))
 }
 
 // A radio frame of n bits, with a fresh random word, a reply room and power for s stores.
@@ -122,7 +122,7 @@ pub extern "C" fn tag_frame(
 ) -> Told
     ensures { told result image.new room.new ≡ in_numbers (first_of (frame_of change_stores (record { session = session_of (numbers_in session); image = image.old; frame = frame.now; bits = n; fresh = fresh; room = room.old; power = s }))) }
 {
-    records::frame_told(tag::frame(session, image, frame, n, fresh, room, s))
+    Told::from(tag::frame(session, image, frame, n, fresh, room, s))
 }
 
 // Asks for the port.
@@ -130,7 +130,7 @@ pub extern "C" fn tag_frame(
 pub extern "C" fn tag_ask(session: Record) -> Told
     ensures { told result [] [] ≡ in_numbers (first_of (ask_of (session_of (numbers_in session)))) }
 {
-    records::outcome(tag::session_of(session).ask())
+    Told::from(tag::session_of(session).ask())
 }
 
 // Gives the port back.
@@ -138,7 +138,7 @@ pub extern "C" fn tag_ask(session: Record) -> Told
 pub extern "C" fn tag_release(session: Record) -> Told
     ensures { told result [] [] ≡ in_numbers (first_of (release_of (session_of (numbers_in session)))) }
 {
-    records::outcome(tag::session_of(session).release())
+    Told::from(tag::session_of(session).release())
 }
 
 // Reads the register, which clears it.
@@ -146,7 +146,7 @@ pub extern "C" fn tag_release(session: Record) -> Told
 pub extern "C" fn tag_register(session: Record) -> Told
     ensures { told result [] [] ≡ in_numbers (first_of (register_of (session_of (numbers_in session)))) }
 {
-    records::outcome(tag::session_of(session).register())
+    Told::from(tag::session_of(session).register())
 }
 
 // Reads count words of USER from word `at` on into the room.
@@ -160,16 +160,17 @@ pub extern "C" fn tag_read(
 ) -> Told
     ensures { told result image.now room.new ≡ in_numbers (first_of (read_of (session_of (numbers_in session)) image.now at count room.old)) }
 {
-    let h = records::held_row(session);
+    let h = records::held(session);
     let dead = session.low % 0x100 == 7;
-    let row = tag::read_words(h, dead, image, at, count, room);
-    if row != 0 {
-        return records::told(row, records::own(session, h), 0);
+    if let Err(answer) = tag::read_words(h, dead, image, at, count, room) {
+        return records::told(u8::from(answer), records::own(session, h), 0);
     }
-    if dead {
-        return records::told(0, records::with_killed(session), 16 * count);
-    }
-    records::told(0, session, 16 * count)
+    let after = if dead {
+        records::with_killed(session)
+    } else {
+        session
+    };
+    records::told(0, after, 16 * count)
 }
 
 // Writes words to USER from word `at` on, with power for s stores.
@@ -183,7 +184,7 @@ pub extern "C" fn tag_write(
 ) -> Told
     ensures { told result image.new [] ≡ in_numbers (first_of (write_of change_stores (session_of (numbers_in session)) image.old at words.now s)) }
 {
-    records::outcome(tag::session_of(session).write(image, at, words, s))
+    Told::from(tag::session_of(session).write(image, at, words, s))
 }
 
 // Makes the frame of a command, with the number that it carries and a cover number, into the room.

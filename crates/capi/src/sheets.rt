@@ -1,67 +1,55 @@
 // The image check's answer as numbers (RULES 10.4).
 ghost use Rattle.std.specs.Prelude.{◌≡◌};
 ghost use Rattle.image.specs.Check.{check_of};
-ghost use Rattle.capi.specs.Told.{nowhere as no_place, refused_sheet, layout_sheet, sheet_of};
+ghost use Rattle.capi.specs.Told.{place_from, refused_sheet, layout_sheet, sheet_of};
 
 use crate::{Place, Sheet};
-use image::Layout;
+use image::{Layout, Section};
 
-fn nowhere() -> Place
-    ensures { result ≡ no_place }
-{
-    Place { at: 0, words: 0 }
+const NOWHERE: Place = Place { at: 0, words: 0 };
+
+impl From<Section> for Place {
+    ghost from_gives = { λ s p. p ≡ place_from s };
+
+    fn from(s: Section) -> Place {
+        Place {
+            at: s.at,
+            words: s.words,
+        }
+    }
 }
 
 fn refused(answer: u8) -> Sheet
     ensures { result ≡ refused_sheet answer }
 {
     Sheet {
-        answer: answer,
+        answer,
         block: 0,
-        status: nowhere(),
-        reserved: nowhere(),
-        epc: nowhere(),
-        tid: nowhere(),
-        user: nowhere(),
-        perma: nowhere(),
-        work: nowhere(),
+        status: NOWHERE,
+        reserved: NOWHERE,
+        epc: NOWHERE,
+        tid: NOWHERE,
+        user: NOWHERE,
+        perma: NOWHERE,
+        work: NOWHERE,
     }
 }
 
-fn laid_out(y: Layout) -> Sheet
-    ensures { result ≡ layout_sheet y }
-{
-    Sheet {
-        answer: 0,
-        block: y.block,
-        status: Place {
-            at: y.status.at,
-            words: y.status.words,
-        },
-        reserved: Place {
-            at: y.reserved.at,
-            words: y.reserved.words,
-        },
-        epc: Place {
-            at: y.epc.at,
-            words: y.epc.words,
-        },
-        tid: Place {
-            at: y.tid.at,
-            words: y.tid.words,
-        },
-        user: Place {
-            at: y.user.at,
-            words: y.user.words,
-        },
-        perma: Place {
-            at: y.perma.at,
-            words: y.perma.words,
-        },
-        work: Place {
-            at: y.work.at,
-            words: y.work.words,
-        },
+impl From<Layout> for Sheet {
+    ghost from_gives = { λ y s. s ≡ layout_sheet y };
+
+    fn from(y: Layout) -> Sheet {
+        Sheet {
+            answer: 0,
+            block: y.block,
+            status: Place::from(y.status),
+            reserved: Place::from(y.reserved),
+            epc: Place::from(y.epc),
+            tid: Place::from(y.tid),
+            user: Place::from(y.user),
+            perma: Place::from(y.perma),
+            work: Place::from(y.work),
+        }
     }
 }
 
@@ -73,6 +61,6 @@ pub fn sheet(image: &[u8]) -> Sheet
         1 => refused(1),
         2 => refused(2),
         3 => refused(3),
-        _ => laid_out(image::read_layout(image)),
+        _ => Sheet::from(image::read_layout(image)),
     }
 }

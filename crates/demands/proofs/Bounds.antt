@@ -1,4 +1,5 @@
 -- No call leaves the bounds of a round's numbers and of a slot. Assumes nothing.
+use Rattle.std.specs.Prelude.{Option, None, Some}
 use Prim.Native.Nat.{ℕ, ◌+◌, ◌-◌, ◌^◌, ◌≤◌, ◌<◌}
 use mathlib.Core.Path.{◌≡◌, refl}
 use mathlib.Core.Bool.{Bool, true, false, cond}
@@ -27,8 +28,7 @@ use Rattle.states.specs.declared.State.TheVariants as state
 use Rattle.states.specs.Commands.{link_of, slot_of, state_number, is_reply, was_acknowledged, zero_access, with_link, used, fallen, plain_link}
 use Rattle.states.specs.Inventory.{drawn, slot_from, matches, queried_flags, adjusted_q, counted_down}
 use Rattle.plans.specs.Effects.{Scene, Effect, half_kill, half_access, effect_of}
-use Rattle.tag.specs.declared.Power.{Power}
-use Rattle.tag.specs.declared.Power.TheVariants as power
+use Rattle.tag.specs.declared.Live.{Live}
 use Rattle.tag.specs.Result.{Result, first_of}
 use Rattle.tag.specs.Power.{power_up_of}
 use Rattle.tag.specs.Table.{live_of, command_in, scene, frame_of}
@@ -102,15 +102,15 @@ adjust-in u q l = go (eqb u 6) (eqb u 3) (ltb q 15) refl
     go false false c e = l
 
 -- what each order comes to
-kill-in : (c : Scene) (w : ℕ) (p : Half) → Reachable c.state → Reachable (half_kill c w p).state
-kill-in c w half.Nothing h = link-in c.state _ h (round-in c.state h)
-kill-in c w (half.Access up) h = h
-kill-in c w (half.Kill up) h = tt
+kill-in : (c : Scene) (w : ℕ) (p : Option Half) → Reachable c.state → Reachable (half_kill c w p).state
+kill-in c w None h = link-in c.state _ h (round-in c.state h)
+kill-in c w (Some (half.Access up)) h = h
+kill-in c w (Some (half.Kill up)) h = tt
 
-access-in : (c : Scene) (w : ℕ) (p : Half) → Reachable c.state → Reachable (half_access c w p).state
-access-in c w half.Nothing h = link-in c.state _ h (round-in c.state h)
-access-in c w (half.Access up) h = round-in c.state h
-access-in c w (half.Kill up) h = h
+access-in : (c : Scene) (w : ℕ) (p : Option Half) → Reachable c.state → Reachable (half_access c w p).state
+access-in c w None h = link-in c.state _ h (round-in c.state h)
+access-in c w (Some (half.Access up)) h = round-in c.state h
+access-in c w (Some (half.Kill up)) h = h
 
 chosen : (b : Bool) (x y : Effect) → Reachable x.state → Reachable y.state → Reachable (cond b x y).state
 chosen true x y p q = p
@@ -150,9 +150,9 @@ order-in c (order.ReadPermalock rfu x) s h = used-in c.state h
 order-in c (order.Permalock rfu x p) s h = used-in c.state h
 
 -- a session's state, Off or not
-live_in : (p : Power) → Reached p → Reachable (live_of p).state
-live_in power.Off h = tt
-live_in (power.On l) h = h
+live_in : (p : Option Live) → Reached p → Reachable (live_of p).state
+live_in None h = tt
+live_in (Some l) h = h
 
 abbrev Comes : Result → Type 0
 Comes r = Reached r.session.power

@@ -1,4 +1,5 @@
 -- Demand 2: where no refusal applies, the table gives its last row; command by command. Assumes nothing.
+use Rattle.std.specs.Prelude.{Option, None, Some}
 use Prim.Native.Nat.{ℕ, ◌+◌, ◌*◌, ◌/◌, ◌%◌, ◌^◌, ◌≤◌}
 use mathlib.Core.Path.{◌≡◌, refl, sym, ap, ap₂, ◌∙◌, subst}
 use mathlib.Core.Logic.{◌≢◌, ◌⊎◌, inl, inr}
@@ -33,7 +34,6 @@ use Rattle.rights.specs.declared.Code.{Code}
 use Rattle.rights.specs.declared.Code.TheVariants as code
 use Rattle.rights.specs.declared.Fault.TheVariants as fault
 use Rattle.stores.specs.Stores.{change_stores}
-use Rattle.states.specs.declared.Cover.TheVariants as cover
 use Rattle.states.specs.declared.Half.{Half}
 use Rattle.states.specs.declared.Half.TheVariants as half
 use Rattle.states.specs.declared.Link.{Link}
@@ -60,7 +60,7 @@ use Rattle.demands.proofs.Terms.{terms-so}
 use Rattle.tag.specs.Port.{bad_count, bad_data, refusals, with_killed, with_unwritten, some_unwritten, written_words, read_bits, port_words, ask_of, release_of, register_of, read_of, write_of}
 use Rattle.demands.specs.Calls.{Aside, awake, answer_of, Idle}
 use Rattle.demands.specs.Commands.{Air, answers_to, linked, link, registered, flagged, quiet, shows_epc, obeyed, Turns, Does, Rounds, Radio, NoImage, Transfers, Demand2}
-use Rattle.demands.proofs.Rows.{Rows, None, none_first}
+use Rattle.demands.proofs.Rows.{Rows, None as NoRow, none_first}
 use Rattle.demands.proofs.Cuts.{started-so}
 use Rattle.demands.proofs.Rounds.{slotted-session, singled-session, first_step, matches-so, matches-not, adjusts-so, says-up-down, counts-so, selects-so, selects-not, taken-choice}
 use Rattle.demands.proofs.Codes.{and-false, words-shown, read-clear, write-clear, lock-clear, perma-read-clear, perma-clear}
@@ -147,7 +147,7 @@ module _ (a : Air) (st : State) (r : Aside) (idle : Idle (layout_of a.image) a.i
     unfolding handed
     halves-is = ap (λ (x : Message). halves_of (layout_of a.image) a.image st (command_in x).order) h ∙ b
 
-    none : None (frame_of change_stores handed).rows
+    none : NoRow (frame_of change_stores handed).rows
     unfolding frame_of handed comes
     none =
         let i = check-0 a.image (layout_of a.image) (sym idle.sound) in (
@@ -269,7 +269,7 @@ module _ (a : Air) (r : Aside) (q : Round) (idle : Idle (layout_of a.image) a.im
   -- the state that Req_RN opens, by the access password
   numbered-so : Bool → Result
   numbered-so t =
-      let k = link q a.fresh cover.Nothing half.Nothing in
+      let k = link q a.fresh None None in
       obeyed (layout_of a.image) a r (record { state = cond t (state.Secured k) (state.Open k); reply = reply.Number a.fresh; words = [] })
 
   nonzero : (u v : ℕ) → (u ≢ 0) ⊎ (v ≢ 0) → eqb u 0 && eqb v 0 ≡ false
@@ -300,43 +300,43 @@ module _ (a : Air) (r : Aside) (q : Round) (idle : Idle (layout_of a.image) a.im
         ];
         read = elim [
           | true ↦ λ h c b p n k e.
-              subst (λ (z : ℕ). Does answer_of (layout_of a.image) a r q h (order.Read (span b p n)) (state.Secured (link q h c half.Nothing)) (record { state = state.Secured (link q h cover.Nothing half.Nothing); reply = reply.Words ((bank_of (layout_of a.image) b).at + p) z h; words = [] })) (words-shown (layout_of a.image) a.image b p n k e.shows)
-              (secured-done a r q idle (link q h c half.Nothing) (order.Read (span b p n)) tt refl refl refl (read-clear (layout_of a.image) a.image true b p n k e))
+              subst (λ (z : ℕ). Does answer_of (layout_of a.image) a r q h (order.Read (span b p n)) (state.Secured (link q h c None)) (record { state = state.Secured (link q h None None); reply = reply.Words ((bank_of (layout_of a.image) b).at + p) z h; words = [] })) (words-shown (layout_of a.image) a.image b p n k e.shows)
+              (secured-done a r q idle (link q h c None) (order.Read (span b p n)) tt refl refl refl (read-clear (layout_of a.image) a.image true b p n k e))
           | false ↦ λ h c b p n k e.
-              subst (λ (z : ℕ). Does answer_of (layout_of a.image) a r q h (order.Read (span b p n)) (state.Open (link q h c half.Nothing)) (record { state = state.Open (link q h cover.Nothing half.Nothing); reply = reply.Words ((bank_of (layout_of a.image) b).at + p) z h; words = [] })) (words-shown (layout_of a.image) a.image b p n k e.shows)
-              (open_done a r q idle (link q h c half.Nothing) (order.Read (span b p n)) tt refl refl refl refl (read-clear (layout_of a.image) a.image false b p n k e))
+              subst (λ (z : ℕ). Does answer_of (layout_of a.image) a r q h (order.Read (span b p n)) (state.Open (link q h c None)) (record { state = state.Open (link q h None None); reply = reply.Words ((bank_of (layout_of a.image) b).at + p) z h; words = [] })) (words-shown (layout_of a.image) a.image b p n k e.shows)
+              (open_done a r q idle (link q h c None) (order.Read (span b p n)) tt refl refl refl refl (read-clear (layout_of a.image) a.image false b p n k e))
         ];
         write = elim [
-          | true ↦ λ h c b p w e. secured-done a r q idle (link q h (cover.Number c) half.Nothing) (order.Write (span b p 1) w) tt refl refl refl (write-clear (layout_of a.image) a.image true b p 1 (bit_xor w c) e)
-          | false ↦ λ h c b p w e. open_done a r q idle (link q h (cover.Number c) half.Nothing) (order.Write (span b p 1) w) tt refl refl refl refl (write-clear (layout_of a.image) a.image false b p 1 (bit_xor w c) e)
+          | true ↦ λ h c b p w e. secured-done a r q idle (link q h (Some c) None) (order.Write (span b p 1) w) tt refl refl refl (write-clear (layout_of a.image) a.image true b p 1 (bit_xor w c) e)
+          | false ↦ λ h c b p w e. open_done a r q idle (link q h (Some c) None) (order.Write (span b p 1) w) tt refl refl refl refl (write-clear (layout_of a.image) a.image false b p 1 (bit_xor w c) e)
         ];
         kill_first = elim [
-          | true ↦ λ h c w e. secured-done a r q idle (link q h (cover.Number c) half.Nothing) (order.Kill w) tt refl refl refl (no_code (nonzero _ _ e))
-          | false ↦ λ h c w e. open_done a r q idle (link q h (cover.Number c) half.Nothing) (order.Kill w) tt refl refl refl refl (no_code (nonzero _ _ e))
+          | true ↦ λ h c w e. secured-done a r q idle (link q h (Some c) None) (order.Kill w) tt refl refl refl (no_code (nonzero _ _ e))
+          | false ↦ λ h c w e. open_done a r q idle (link q h (Some c) None) (order.Kill w) tt refl refl refl refl (no_code (nonzero _ _ e))
         ];
         kill_second = elim [
-          | true ↦ λ h c w up i j. secured-done a r q idle (link q h (cover.Number c) (half.Kill up)) (order.Kill w) tt refl refl (right up (bit_xor w c) _ _ i j) refl
-          | false ↦ λ h c w up i j. open_done a r q idle (link q h (cover.Number c) (half.Kill up)) (order.Kill w) tt refl refl refl (right up (bit_xor w c) _ _ i j) refl
+          | true ↦ λ h c w up i j. secured-done a r q idle (link q h (Some c) (Some (half.Kill up))) (order.Kill w) tt refl refl (right up (bit_xor w c) _ _ i j) refl
+          | false ↦ λ h c w up i j. open_done a r q idle (link q h (Some c) (Some (half.Kill up))) (order.Kill w) tt refl refl refl (right up (bit_xor w c) _ _ i j) refl
         ];
-        lock = λ h c mask action e. secured-done a r q idle (link q h c half.Nothing) (order.Lock mask action) tt refl refl refl (lock-clear (layout_of a.image) a.image mask action e);
+        lock = λ h c mask action e. secured-done a r q idle (link q h c None) (order.Lock mask action) tt refl refl refl (lock-clear (layout_of a.image) a.image mask action e);
         access-first = elim [
-          | true ↦ λ h c w. secured-done a r q idle (link q h (cover.Number c) half.Nothing) (order.Access w) tt refl refl refl refl
-          | false ↦ λ h c w. open_done a r q idle (link q h (cover.Number c) half.Nothing) (order.Access w) tt refl refl refl refl refl
+          | true ↦ λ h c w. secured-done a r q idle (link q h (Some c) None) (order.Access w) tt refl refl refl refl
+          | false ↦ λ h c w. open_done a r q idle (link q h (Some c) None) (order.Access w) tt refl refl refl refl refl
         ];
         access-second = elim [
-          | true ↦ λ h c w up i j. secured-done a r q idle (link q h (cover.Number c) (half.Access up)) (order.Access w) tt refl refl (right up (bit_xor w c) _ _ i j) refl
-          | false ↦ λ h c w up i j. open_done a r q idle (link q h (cover.Number c) (half.Access up)) (order.Access w) tt refl refl refl (right up (bit_xor w c) _ _ i j) refl
+          | true ↦ λ h c w up i j. secured-done a r q idle (link q h (Some c) (Some (half.Access up))) (order.Access w) tt refl refl (right up (bit_xor w c) _ _ i j) refl
+          | false ↦ λ h c w up i j. open_done a r q idle (link q h (Some c) (Some (half.Access up))) (order.Access w) tt refl refl refl (right up (bit_xor w c) _ _ i j) refl
         ];
         block_write = elim [
-          | true ↦ λ h c b p n at l e. secured-done a r q idle (link q h c half.Nothing) (order.BlockWrite (span b p n) at) tt refl (some n l) refl (write-clear (layout_of a.image) a.image true b p n _ e)
-          | false ↦ λ h c b p n at l e. open_done a r q idle (link q h c half.Nothing) (order.BlockWrite (span b p n) at) tt refl refl (some n l) refl (write-clear (layout_of a.image) a.image false b p n _ e)
+          | true ↦ λ h c b p n at l e. secured-done a r q idle (link q h c None) (order.BlockWrite (span b p n) at) tt refl (some n l) refl (write-clear (layout_of a.image) a.image true b p n _ e)
+          | false ↦ λ h c b p n at l e. open_done a r q idle (link q h c None) (order.BlockWrite (span b p n) at) tt refl refl (some n l) refl (write-clear (layout_of a.image) a.image false b p n _ e)
         ];
         block_erase = elim [
-          | true ↦ λ h c b p n l e. secured-done a r q idle (link q h c half.Nothing) (order.BlockErase (span b p n)) tt refl (some n l) refl (write-clear (layout_of a.image) a.image true b p n 0 e)
-          | false ↦ λ h c b p n l e. open_done a r q idle (link q h c half.Nothing) (order.BlockErase (span b p n)) tt refl refl (some n l) refl (write-clear (layout_of a.image) a.image false b p n 0 e)
+          | true ↦ λ h c b p n l e. secured-done a r q idle (link q h c None) (order.BlockErase (span b p n)) tt refl (some n l) refl (write-clear (layout_of a.image) a.image true b p n 0 e)
+          | false ↦ λ h c b p n l e. open_done a r q idle (link q h c None) (order.BlockErase (span b p n)) tt refl refl (some n l) refl (write-clear (layout_of a.image) a.image false b p n 0 e)
         ];
-        permalock_read = λ h c p n l e. secured-done a r q idle (link q h c half.Nothing) (order.ReadPermalock 0 (span 3 p n)) tt refl (some n l) refl (perma-read-clear (layout_of a.image) p n e);
-        permalock = λ h c p n at l e. secured-done a r q idle (link q h c half.Nothing) (order.Permalock 0 (span 3 p n) at) tt refl (some n l) refl (perma-clear (layout_of a.image) a.image p n a.frame at e);
+        permalock_read = λ h c p n l e. secured-done a r q idle (link q h c None) (order.ReadPermalock 0 (span 3 p n)) tt refl (some n l) refl (perma-read-clear (layout_of a.image) p n e);
+        permalock = λ h c p n at l e. secured-done a r q idle (link q h c None) (order.Permalock 0 (span 3 p n) at) tt refl (some n l) refl (perma-clear (layout_of a.image) a.image p n a.frame at e);
         nak = λ st slot x. nak-done a r idle st q slot x;
         nak-singled = λ st x. nak-singled a r idle st q x;
       }
@@ -446,10 +446,10 @@ module _ (a : Air) (r : Aside) (idle : Idle (layout_of a.image) a.image) where
   ack-to st q n e w b =
       comes-to st q 0 (order.Ack n) (shown st) w b (ap (λ (t : Bool). cond t (shown st) (turns r.flags (fallen st))) (eq-eqb (link_of st).handle n e)) refl
 
-  not-to : (k : Link) (p : Half) (n : ℕ) → k.handle ≢ n → halves_row (layout_of a.image) a.image k p (part.To n) ≡ 0
-  not-to k half.Nothing n d = refl
-  not-to k (half.Access up) n d = ap (λ (b : Bool). cond b 14 0) (ne_eqb k.handle n d)
-  not-to k (half.Kill up) n d = ap (λ (b : Bool). cond b 14 0) (ne_eqb k.handle n d)
+  not-to : (k : Link) (p : Option Half) (n : ℕ) → k.handle ≢ n → halves_row (layout_of a.image) a.image k p (part.To n) ≡ 0
+  not-to k None n d = refl
+  not-to k (Some (half.Access up)) n d = ap (λ (b : Bool). cond b 14 0) (ne_eqb k.handle n d)
+  not-to k (Some (half.Kill up)) n d = ap (λ (b : Bool). cond b 14 0) (ne_eqb k.handle n d)
 
   ack-off : (st : State) (q : Round) (n k : ℕ) → Numbered st q n → k ≢ n → Does answer_of (layout_of a.image) a r q 0 (order.Ack k) st (quiet (state.Arbitrate q 0))
   unfolding at shown
@@ -486,8 +486,8 @@ module _ (a : Air) (r : Aside) (idle : Idle (layout_of a.image) a.image) where
         ack = λ n. ack-to (state.Reply q n) q n refl refl refl;
         ack-again = λ n. ack-to (state.Acknowledged q n) q n refl refl refl;
         ack-handle = elim [
-          | true ↦ λ h c. ack-to (state.Secured (link q h c half.Nothing)) q h refl refl refl
-          | false ↦ λ h c. ack-to (state.Open (link q h c half.Nothing)) q h refl refl refl
+          | true ↦ λ h c. ack-to (state.Secured (link q h c None)) q h refl refl refl
+          | false ↦ λ h c. ack-to (state.Open (link q h c None)) q h refl refl refl
         ];
         ack_wrong = λ st n k x d. ack-off st q n k x d;
         select_matching = λ st c p k h s. select-to st q c p true k h (selects-so _ _ _ c.bits p s);
@@ -499,7 +499,7 @@ module _ (m : List ℕ) (st : State) (r : Aside) (idle : Idle (layout_of m) m) w
   holder : Session
   holder = awake st true r
 
-  past : (room : List ℕ) (bad : Bool) (rest : Rows) → bad ≡ false → None rest → None (refusals holder m room bad ++ rest)
+  past : (room : List ℕ) (bad : Bool) (rest : Rows) → bad ≡ false → NoRow rest → None (refusals holder m room bad ++ rest)
   unfolding holder
   past room bad rest e h =
       let c = check-0 m (layout_of m) (sym idle.sound) in

@@ -1,4 +1,5 @@
 -- With 12 in the place of 14 every frame is answered as by the former table. Assumes nothing.
+use Rattle.std.specs.Prelude.{Option, None, Some}
 use Prim.Native.Nat.{ℕ}
 use mathlib.Core.Path.{◌≡◌, refl, ap, ◌∙◌}
 use mathlib.Core.Bool.{Bool, true, false, cond, not, ◌&&◌, ◌||◌}
@@ -37,18 +38,18 @@ to-this : (b : Bool) → eqb (cond b 14 0) 12 || eqb (cond b 14 0) 14 ≡ b
 to-this true = refl
 to-this false = refl
 
-both-were : (y : Layout) (m : List ℕ) (k : Link) (a : Half) (p : Part) → eqb (halves_row y m k a p) 12 || eqb (halves_row y m k a p) 14 ≡ breaks y m k a p
-both-were y m k half.Nothing p = refl
-both-were y m k (half.Access up) part.Between = refl
-both-were y m k (half.Access up) (part.Access h) = right (eqb up (access_word y m 0) && eqb (uncovered k.cover h) (access_word y m 1))
-both-were y m k (half.Access up) (part.Kill h) = refl
-both-were y m k (half.Access up) (part.To n) = to-this (eqb k.handle n)
-both-were y m k (half.Access up) part.Other = refl
-both-were y m k (half.Kill up) part.Between = refl
-both-were y m k (half.Kill up) (part.Access h) = refl
-both-were y m k (half.Kill up) (part.Kill h) = right (eqb up (kill_word y m 0) && eqb (uncovered k.cover h) (kill_word y m 1))
-both-were y m k (half.Kill up) (part.To n) = to-this (eqb k.handle n)
-both-were y m k (half.Kill up) part.Other = refl
+both-were : (y : Layout) (m : List ℕ) (k : Link) (a : Option Half) (p : Part) → eqb (halves_row y m k a p) 12 || eqb (halves_row y m k a p) 14 ≡ breaks y m k a p
+both-were y m k None p = refl
+both-were y m k (Some (half.Access up)) part.Between = refl
+both-were y m k (Some (half.Access up)) (part.Access h) = right (eqb up (access_word y m 0) && eqb (uncovered k.cover h) (access_word y m 1))
+both-were y m k (Some (half.Access up)) (part.Kill h) = refl
+both-were y m k (Some (half.Access up)) (part.To n) = to-this (eqb k.handle n)
+both-were y m k (Some (half.Access up)) part.Other = refl
+both-were y m k (Some (half.Kill up)) part.Between = refl
+both-were y m k (Some (half.Kill up)) (part.Access h) = refl
+both-were y m k (Some (half.Kill up)) (part.Kill h) = right (eqb up (kill_word y m 0) && eqb (uncovered k.cover h) (kill_word y m 1))
+both-were y m k (Some (half.Kill up)) (part.To n) = to-this (eqb k.handle n)
+both-were y m k (Some (half.Kill up)) part.Other = refl
 
 -- what rows leave, as an older log has it
 logged : Rows → Rows

@@ -1,4 +1,5 @@
 -- The words of every command and of every SPI write are a change that the laws of cuts speak of, and keep what is to be kept. Assumes nothing.
+use Rattle.std.specs.Prelude.{Option, None, Some}
 use Prim.Native.Nat.{ℕ, zero, suc, ◌+◌, ◌-◌, ◌*◌, ◌/◌, ◌%◌, ◌^◌, ◌≤◌, ◌<◌}
 use mathlib.Core.Path.{◌≡◌, refl, sym, ap, ◌∙◌, subst}
 use mathlib.Core.Logic.{◌⊎◌, inl, inr, ⊎_elim}
@@ -109,16 +110,16 @@ module _ (y : Layout) (m : List ℕ) (g : Good y m) where
   at : Flags → State → List ℕ → ℕ → Scene
   at g st f fresh = record { layout = y; image = m; flags = g; state = st; frame = f; fresh = fresh }
 
-  kill-plan : (g : Flags) (st : State) (f : List ℕ) (fresh w : ℕ) (a : Half) → Plan y m (half_kill (at g st f fresh) w a).words
+  kill-plan : (g : Flags) (st : State) (f : List ℕ) (fresh w : ℕ) (a : Option Half) → Plan y m (half_kill (at g st f fresh) w a).words
   unfolding at
-  kill-plan g st f fresh w half.Nothing = no-plan y m
-  kill-plan g st f fresh w (half.Access up) = no-plan y m
-  kill-plan g st f fresh w (half.Kill up) = one-plan y m (store (y.status.at + 1) 1) hd (omega (arith, hd)) (killed-sound y m hd)
+  kill-plan g st f fresh w None = no-plan y m
+  kill-plan g st f fresh w (Some (half.Access up)) = no-plan y m
+  kill-plan g st f fresh w (Some (half.Kill up)) = one-plan y m (store (y.status.at + 1) 1) hd (omega (arith, hd)) (killed-sound y m hd)
 
-  access-plan : (c : Scene) (w : ℕ) (a : Half) → Plan y m (half_access c w a).words
-  access-plan c w half.Nothing = no-plan y m
-  access-plan c w (half.Access up) = no-plan y m
-  access-plan c w (half.Kill up) = no-plan y m
+  access-plan : (c : Scene) (w : ℕ) (a : Option Half) → Plan y m (half_access c w a).words
+  access-plan c w None = no-plan y m
+  access-plan c w (Some (half.Access up)) = no-plan y m
+  access-plan c w (Some (half.Kill up)) = no-plan y m
 
   mask-plan : (s : Span) (f : List ℕ) (p : ℕ)
       → (s.pointer + s.count ≤ y.perma.words) × (every (λ k. eqb (bit_at f (p + k)) 0 || ltb (16 * s.pointer + k) (blocks_in y)) (16 * s.count) ≡ true)

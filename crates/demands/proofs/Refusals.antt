@@ -1,4 +1,5 @@
 -- When a frame is refused: each line of the refusals is a row of the table with the rows before it excluded. Assumes nothing.
+use Rattle.std.specs.Prelude.{Option, None, Some}
 use Prim.Native.Nat.{ℕ, zero, suc, ◌+◌, ◌-◌, ◌*◌, ◌/◌, ◌%◌, ◌≤◌, ◌<◌}
 use mathlib.Core.Path.{◌≡◌, refl, sym, ap, ap₂, ◌∙◌, subst}
 use mathlib.Core.Logic.{◌≢◌, ◌⊎◌, inl, inr}
@@ -37,8 +38,6 @@ use Rattle.rights.specs.declared.Fault.{Fault}
 use Rattle.rights.specs.declared.Fault.TheVariants as fault
 use Rattle.rights.specs.Rights.{read_code, write_code, lock_code, perma_read_code, perma_code, fault_number}
 use Rattle.stores.specs.Stores.{change_stores}
-use Rattle.states.specs.declared.Cover.{Cover}
-use Rattle.states.specs.declared.Cover.TheVariants as cover
 use Rattle.states.specs.declared.Half.{Half}
 use Rattle.states.specs.declared.Half.TheVariants as half
 use Rattle.states.specs.declared.Link.{Link}
@@ -55,7 +54,7 @@ use Rattle.tag.specs.declared.Session.{Session}
 use Rattle.tag.specs.Session.{off_session}
 use Rattle.tag.specs.Result.{Result, leaves, lost}
 use Rattle.states.specs.Commands.{bad_choice, bad_up_dn, is_killed, asks_of, link_of, is_covered, uncovered, wrong_by, zero_kill, kill_word, halves_row, halves_of, used, fallen}
-use Rattle.states.specs.Steps.{asks, wrong_command}
+use Rattle.states.specs.Steps.{wrong_command}
 use Rattle.plans.specs.Effects.{Scene, Effect, effect_of}
 use Rattle.tag.specs.Table.{Input, halves, effect, is_error, reply_or, reply_of, fits, everything, frame_of, live_of, is_off, refused_by, command_in, command, scene}
 use Rattle.tag.specs.Power.{power_up_of}
@@ -72,6 +71,10 @@ use Rattle.demands.proofs.Codes as codes
 use Rattle.demands.proofs.Rounds.{slotted-session, singled-session}
 use Rattle.demands.specs.Refusals.{stays, drops, errs, Covered, Addressed, Needs, Other, Waits, Brings, OutOfPlace, Dropped, Errors, Locks, NoImageRefused, BadCount, TransferRefused, PortRefused, Refusals}
 use Rattle.tag.specs.Steps.{input}
+
+-- what an order asks, field by field
+abbrev asks : Who → Bool → Bool → Part → Asks
+asks who cover bad part = record { who = who; cover = cover; bad = bad; part = part }
 
 -- an image that is not good: its number's row, whatever comes after
 image-first : (m : List ℕ) (leaving : ℕ → Result) (more : Rows) (last : Result) (n : ℕ) → check_of m ≡ refused n → first (image_rows leaving m ++ more) last ≡ leaving n
@@ -221,12 +224,12 @@ module _ (y : Layout) (a : Air) (st : State) (r : Aside) (idle : Idle y a.image)
         ∙ ap replied-as reply-is
 
 -- what it lacks, or that it has it all
-data Lacks (q : Bool) (c : Cover) (a : Asks) : Type 0 where
+data Lacks (q : Bool) (c : Option ℕ) (a : Asks) : Type 0 where
   insecure : q ≡ false → needs_secured a.who ≡ true → Lacks q c a
   naked : a.cover && not (is_covered c) ≡ true → Lacks q c a
   empty : a.bad ≡ true → Lacks q c a
 
-record Has (q : Bool) (c : Cover) (a : Asks) : Type 0 where
+record Has (q : Bool) (c : Option ℕ) (a : Asks) : Type 0 where
   secured : not q && needs_secured a.who ≡ false
   covered : a.cover && not (is_covered c) ≡ false
   whole : a.bad ≡ false
@@ -235,13 +238,13 @@ not_so : (q : Bool) → (q ≡ true → ⊥) → q ≡ false
 not_so true f = absurd (f refl)
 not_so false f = refl
 
-bare : (c : Cover) → (Covered c → ⊥) → not (is_covered c) ≡ true
-bare cover.Nothing f = refl
-bare (cover.Number n) f = absurd (f tt)
+bare : (c : Option ℕ) → (Covered c → ⊥) → not (is_covered c) ≡ true
+bare None f = refl
+bare (Some n) f = absurd (f tt)
 
-dressed : (c : Cover) → Covered c → not (is_covered c) ≡ false
-dressed cover.Nothing f = absurd f
-dressed (cover.Number n) f = refl
+dressed : (c : Option ℕ) → Covered c → not (is_covered c) ≡ false
+dressed None f = absurd f
+dressed (Some n) f = refl
 
 none : (k : ℕ) → (1 ≤ k → ⊥) → eqb k 0 ≡ true
 none zero f = refl
@@ -250,12 +253,12 @@ none (suc k) f = absurd (f (omega arith))
 some : (k : ℕ) → 1 ≤ k → eqb k 0 ≡ false
 some k l = ne_eqb k 0 (omega arith)
 
-perma-lacks : (q : Bool) (c : Cover) (rfu k : ℕ) (p : Part) → ((q ≡ true) × (rfu ≡ 0) × (1 ≤ k) → ⊥) → Lacks q c (asks who.Secured false (not (eqb rfu 0) || eqb k 0) p)
+perma-lacks : (q : Bool) (c : Option ℕ) (rfu k : ℕ) (p : Part) → ((q ≡ true) × (rfu ≡ 0) × (1 ≤ k) → ⊥) → Lacks q c (asks who.Secured false (not (eqb rfu 0) || eqb k 0) p)
 perma-lacks false c rfu k p f = insecure refl refl
 perma-lacks true c zero k p f = empty (none k (λ l. f (refl, refl, l)))
 perma-lacks true c (suc rfu) k p f = empty (ap (λ (b : Bool). not b || eqb k 0) (ne_eqb (suc rfu) 0 (omega arith)))
 
-lacks : (o : Order) (q : Bool) (c : Cover) → (Needs q c o → ⊥) → Lacks q c (asks_of o)
+lacks : (o : Order) (q : Bool) (c : Option ℕ) → (Needs q c o → ⊥) → Lacks q c (asks_of o)
 lacks (order.QueryRep k) q c f = absurd (f tt)
 lacks (order.Ack k) q c f = absurd (f tt)
 lacks (order.Query sel t x) q c f = absurd (f tt)
@@ -273,7 +276,7 @@ lacks (order.BlockErase s) q c f = empty (none s.count f)
 lacks (order.ReadPermalock rfu s) q c f = perma-lacks q c rfu s.count part.Other f
 lacks (order.Permalock rfu s at) q c f = perma-lacks q c rfu s.count part.Other f
 
-perma-has : (q : Bool) (c : Cover) (rfu k : ℕ) (p : Part) → (q ≡ true) × (rfu ≡ 0) × (1 ≤ k) → Has q c (asks who.Secured false (not (eqb rfu 0) || eqb k 0) p)
+perma-has : (q : Bool) (c : Option ℕ) (rfu k : ℕ) (p : Part) → (q ≡ true) × (rfu ≡ 0) × (1 ≤ k) → Has q c (asks who.Secured false (not (eqb rfu 0) || eqb k 0) p)
 perma-has q c rfu k p f =
     record {
       secured = ap (λ (b : Bool). not b && true) f.0;
@@ -284,7 +287,7 @@ perma-has q c rfu k p f =
 and-nothing : (q : Bool) → not q && false ≡ false
 and-nothing q = and-false (not q)
 
-has : (o : Order) (q : Bool) (c : Cover) → Addressed o → Needs q c o → Has q c (asks_of o)
+has : (o : Order) (q : Bool) (c : Option ℕ) → Addressed o → Needs q c o → Has q c (asks_of o)
 has (order.QueryRep k) q c d f = absurd d
 has (order.Ack k) q c d f = absurd d
 has (order.Query sel t x) q c d f = absurd d
@@ -325,7 +328,7 @@ numbered-order (order.BlockErase s) d = tt
 numbered-order (order.ReadPermalock rfu s) d = tt
 numbered-order (order.Permalock rfu s at) d = tt
 
-module _ (rd : Round) (h : ℕ) (c : Cover) (p : Half) where
+module _ (rd : Round) (h : ℕ) (c : Option ℕ) (p : Option Half) where
   hears-so : (w : Who) (q : Bool) (n : ℕ) → Named w → wide.hears w (linked q (link rd h c p)) n ≡ not (not q && needs_secured w) && eqb h n
   hears-so who.Everyone q n d = absurd d
   hears-so who.InRound q n d = absurd d
@@ -490,13 +493,13 @@ module _ (a : Air) (r : Aside) (rd : Round) (idle : Idle (layout_of a.image) a.i
         handle = λ q h c p n o s k d. says-9 (linked q (link rd h c p)) n o s (unfit q h c p n o (numbered-order o k) d);
       }
     where
-      unfit : (q : Bool) (h : ℕ) (c : Cover) (p : Half) (n : ℕ) (o : Order) → Named (asks_of o).who → (n ≢ h) ⊎ (Needs q c o → ⊥)
+      unfit : (q : Bool) (h : ℕ) (c : Option ℕ) (p : Option Half) (n : ℕ) (o : Order) → Named (asks_of o).who → (n ≢ h) ⊎ (Needs q c o → ⊥)
           → wrong_by (linked q (link rd h c p)) n (asks_of o) ≡ true
       unfit q h c p n o k (inl d) = other-wrong rd h c p q n (asks_of o) k d
       unfit q h c p n o k (inr f) = lacks-wrong rd h c p q n (asks_of o) k (lacks o q c f)
 
   -- 12, or 14 where the halves are broken
-  says-halves : (broken q : Bool) (h : ℕ) (c : Cover) (p : Half) (o : Order) → Says a h o → Needs q c o → Addressed o
+  says-halves : (broken q : Bool) (h : ℕ) (c : Option ℕ) (p : Option Half) (o : Order) → Says a h o → Needs q c o → Addressed o
       → halves_row (layout_of a.image) a.image (link rd h c p) p (asks_of o).part ≡ cond broken 14 12
       → answers_to answer_of a (awake (linked q (link rd h c p)) false r) ≡ drops (cond broken 14 12) a r rd
   says-halves b true h c p o s f k e =
@@ -506,12 +509,12 @@ module _ (a : Air) (r : Aside) (rd : Round) (idle : Idle (layout_of a.image) a.i
       row-halves (layout_of a.image) a (state.Open (link rd h c p)) r idle (record { number = h; order = o }) s b
       (has_right rd h c p false (asks_of o) (numbered-order o k) (has o false c k f)) e
 
-  addressed : (h : ℕ) (c : Cover) (p : Half) → Waits p → halves_row (layout_of a.image) a.image (link rd h c p) p (part.To h) ≡ 14
-  addressed h c half.Nothing w = absurd w
-  addressed h c (half.Access up) w = ap (λ (b : Bool). cond b 14 0) (eq-eqb h h refl)
-  addressed h c (half.Kill up) w = ap (λ (b : Bool). cond b 14 0) (eq-eqb h h refl)
+  addressed : (h : ℕ) (c : Option ℕ) (p : Option Half) → Waits p → halves_row (layout_of a.image) a.image (link rd h c p) p (part.To h) ≡ 14
+  addressed h c None w = absurd w
+  addressed h c (Some (half.Access up)) w = ap (λ (b : Bool). cond b 14 0) (eq-eqb h h refl)
+  addressed h c (Some (half.Kill up)) w = ap (λ (b : Bool). cond b 14 0) (eq-eqb h h refl)
 
-  ack-14 : (q : Bool) (h n : ℕ) (c : Cover) (p : Half) → Says a n (order.Ack h) → Waits p → answers_to answer_of a (awake (linked q (link rd h c p)) false r) ≡ drops 14 a r rd
+  ack-14 : (q : Bool) (h n : ℕ) (c : Option ℕ) (p : Option Half) → Says a n (order.Ack h) → Waits p → answers_to answer_of a (awake (linked q (link rd h c p)) false r) ≡ drops 14 a r rd
   ack-14 true h n c p s w = row-halves (layout_of a.image) a (state.Secured (link rd h c p)) r idle (record { number = n; order = order.Ack h }) s true refl (addressed h c p w)
   ack-14 false h n c p s w = row-halves (layout_of a.image) a (state.Open (link rd h c p)) r idle (record { number = n; order = order.Ack h }) s true refl (addressed h c p w)
 
@@ -520,11 +523,11 @@ module _ (a : Air) (r : Aside) (rd : Round) (idle : Idle (layout_of a.image) a.i
   not-both x z u v (inl d) = ap (λ (b : Bool). cond (b && eqb z v) 0 12) (ne_eqb x u d)
   not-both x z u v (inr d) = ap (λ (b : Bool). cond b 0 12) (ap (λ (b : Bool). eqb x u && b) (ne_eqb z v d) ∙ and-false (eqb x u))
 
-  comes-between : (p : Half) (o : Order) (h : ℕ) (c : Cover) → Other p o → halves_row (layout_of a.image) a.image (link rd h c p) p (asks_of o).part ≡ 14
-  comes-between half.Nothing o h c f = absurd f
-  comes-between (half.Access up) o h c f = go o f
+  comes-between : (p : Option Half) (o : Order) (h : ℕ) (c : Option ℕ) → Other p o → halves_row (layout_of a.image) a.image (link rd h c p) p (asks_of o).part ≡ 14
+  comes-between None o h c f = absurd f
+  comes-between (Some (half.Access up)) o h c f = go o f
     where
-      go : (o : Order) → Other (half.Access up) o → halves_row (layout_of a.image) a.image (link rd h c (half.Access up)) (half.Access up) (asks_of o).part ≡ 14
+      go : (o : Order) → Other (Some (half.Access up)) o → halves_row (layout_of a.image) a.image (link rd h c (Some (half.Access up))) (Some (half.Access up)) (asks_of o).part ≡ 14
       go (order.QueryRep k) f = absurd f.0
       go (order.Ack k) f = absurd f.0
       go (order.Query sel t x) f = absurd f.0
@@ -541,9 +544,9 @@ module _ (a : Air) (r : Aside) (rd : Round) (idle : Idle (layout_of a.image) a.i
       go (order.BlockErase s) f = refl
       go (order.ReadPermalock rfu s) f = refl
       go (order.Permalock rfu s at) f = refl
-  comes-between (half.Kill up) o h c f = go o f
+  comes-between (Some (half.Kill up)) o h c f = go o f
     where
-      go : (o : Order) → Other (half.Kill up) o → halves_row (layout_of a.image) a.image (link rd h c (half.Kill up)) (half.Kill up) (asks_of o).part ≡ 14
+      go : (o : Order) → Other (Some (half.Kill up)) o → halves_row (layout_of a.image) a.image (link rd h c (Some (half.Kill up))) (Some (half.Kill up)) (asks_of o).part ≡ 14
       go (order.QueryRep k) f = absurd f.0
       go (order.Ack k) f = absurd f.0
       go (order.Query sel t x) f = absurd f.0
@@ -561,22 +564,22 @@ module _ (a : Air) (r : Aside) (rd : Round) (idle : Idle (layout_of a.image) a.i
       go (order.ReadPermalock rfu s) f = refl
       go (order.Permalock rfu s at) f = refl
 
-  other-to : (p : Half) (o : Order) → Other p o → Addressed o
-  other-to half.Nothing o f = absurd f
-  other-to (half.Access up) o f = f.0
-  other-to (half.Kill up) o f = f.0
+  other-to : (p : Option Half) (o : Order) → Other p o → Addressed o
+  other-to None o f = absurd f
+  other-to (Some (half.Access up)) o f = f.0
+  other-to (Some (half.Kill up)) o f = f.0
 
   drop-lines : Dropped answer_of (layout_of a.image) a r rd
   drop-lines =
       record {
-        access = λ q h c up w s d. says-halves false q h (cover.Number c) (half.Access up) (order.Access w) s tt tt (not-both up (bit_xor w c) _ _ d);
-        kill = λ q h c up w s d. says-halves false q h (cover.Number c) (half.Kill up) (order.Kill w) s tt tt (not-both up (bit_xor w c) _ _ d);
+        access = λ q h c up w s d. says-halves false q h (Some c) (Some (half.Access up)) (order.Access w) s tt tt (not-both up (bit_xor w c) _ _ d);
+        kill = λ q h c up w s d. says-halves false q h (Some c) (Some (half.Kill up)) (order.Kill w) s tt tt (not-both up (bit_xor w c) _ _ d);
         between = λ q h c p o s f d. says-halves true q h c p o s f (other-to p o d) (comes-between p o h c d);
         ack = ack-14;
       }
 
   -- the code of an order where no half waits
-  code_by : Bool → Cover → Order → Code
+  code_by : Bool → Option ℕ → Order → Code
   code_by q c (order.QueryRep k) = code.Nothing
   code_by q c (order.Ack k) = code.Nothing
   code_by q c (order.Query sel t x) = code.Nothing
@@ -601,7 +604,7 @@ module _ (a : Air) (r : Aside) (rd : Round) (idle : Idle (layout_of a.image) a.i
   ack-code true x z e f = e
   ack-code false x z e f = f
 
-  same_code : (o : Order) (k : Link) → k.half ≡ half.Nothing
+  same_code : (o : Order) (k : Link) → k.half ≡ None
       → ((effect_of (scene-in (state.Secured k)) o).code ≡ code_by true k.cover o) × ((effect_of (scene-in (state.Open k)) o).code ≡ code_by false k.cover o)
   unfolding scene-in code_by
   same_code (order.QueryRep n) k e = (refl, refl)
@@ -625,7 +628,7 @@ module _ (a : Air) (r : Aside) (rd : Round) (idle : Idle (layout_of a.image) a.i
   never e d = let z : ◌≡◌ {A = ℕ} 0 1 = cc in omega arith
 
   -- 10, where no half waits
-  coded-to : (q : Bool) (c : Cover) (o : Order) (e : Fault) → code_by q c o ≡ code.Error e → Addressed o
+  coded-to : (q : Bool) (c : Option ℕ) (o : Order) (e : Fault) → code_by q c o ≡ code.Error e → Addressed o
   unfolding code_by
   coded-to q c (order.QueryRep k) e d = absurd (never e d)
   coded-to q c (order.Ack k) e d = absurd (never e d)
@@ -644,21 +647,21 @@ module _ (a : Air) (r : Aside) (rd : Round) (idle : Idle (layout_of a.image) a.i
   coded-to q c (order.ReadPermalock rfu s) e d = tt
   coded-to q c (order.Permalock rfu s at) e d = tt
 
-  says-10 : (q : Bool) (h : ℕ) (c : Cover) (o : Order) (e : Fault) → Says a h o → Needs q c o → 6 ≤ length a.room → code_by q c o ≡ code.Error e
-      → answers_to answer_of a (awake (linked q (link rd h c half.Nothing)) false r) ≡ errs a r rd q h (fault_number e)
+  says-10 : (q : Bool) (h : ℕ) (c : Option ℕ) (o : Order) (e : Fault) → Says a h o → Needs q c o → 6 ≤ length a.room → code_by q c o ≡ code.Error e
+      → answers_to answer_of a (awake (linked q (link rd h c None)) false r) ≡ errs a r rd q h (fault_number e)
   unfolding handed replied-as scene-in
   says-10 q h c o e s f l d = go q f d
     where
-      go : (q : Bool) → Needs q c o → code_by q c o ≡ code.Error e → answers_to answer_of a (awake (linked q (link rd h c half.Nothing)) false r) ≡ errs a r rd q h (fault_number e)
+      go : (q : Bool) → Needs q c o → code_by q c o ≡ code.Error e → answers_to answer_of a (awake (linked q (link rd h c None)) false r) ≡ errs a r rd q h (fault_number e)
       go true f d =
-          row-10 (layout_of a.image) a (state.Secured (link rd h c half.Nothing)) r idle (record { number = h; order = o }) s e
-          (has_right rd h c half.Nothing true (asks_of o) (numbered-order o (coded-to true c o e d)) (has o true c (coded-to true c o e d) f)) refl ((same_code o (link rd h c half.Nothing) refl).0 ∙ d) l
+          row-10 (layout_of a.image) a (state.Secured (link rd h c None)) r idle (record { number = h; order = o }) s e
+          (has_right rd h c None true (asks_of o) (numbered-order o (coded-to true c o e d)) (has o true c (coded-to true c o e d) f)) refl ((same_code o (link rd h c None) refl).0 ∙ d) l
       go false f d =
-          row-10 (layout_of a.image) a (state.Open (link rd h c half.Nothing)) r idle (record { number = h; order = o }) s e
-          (has_right rd h c half.Nothing false (asks_of o) (numbered-order o (coded-to false c o e d)) (has o false c (coded-to false c o e d) f)) refl ((same_code o (link rd h c half.Nothing) refl).1 ∙ d) l
+          row-10 (layout_of a.image) a (state.Open (link rd h c None)) r idle (record { number = h; order = o }) s e
+          (has_right rd h c None false (asks_of o) (numbered-order o (coded-to false c o e d)) (has o false c (coded-to false c o e d) f)) refl ((same_code o (link rd h c None) refl).1 ∙ d) l
 
   -- what a writing command brings is what its code is asked of
-  brings-needs : (o : Order) (q : Bool) (c : Cover) (b p n pc : ℕ) → Brings a c o b p n pc → Needs q c o
+  brings-needs : (o : Order) (q : Bool) (c : Option ℕ) (b p n pc : ℕ) → Brings a c o b p n pc → Needs q c o
   brings-needs (order.QueryRep k) q c b p n pc f = tt
   brings-needs (order.Ack k) q c b p n pc f = tt
   brings-needs (order.Query sel t x) q c b p n pc f = tt
@@ -667,8 +670,8 @@ module _ (a : Air) (r : Aside) (rd : Round) (idle : Idle (layout_of a.image) a.i
   brings-needs order.Nak q c b p n pc f = tt
   brings-needs order.ReqRn q c b p n pc f = tt
   brings-needs (order.Read s) q c b p n pc f = tt
-  brings-needs (order.Write s w) q cover.Nothing b p n pc f = absurd f
-  brings-needs (order.Write s w) q (cover.Number k) b p n pc f = tt
+  brings-needs (order.Write s w) q None b p n pc f = absurd f
+  brings-needs (order.Write s w) q (Some k) b p n pc f = tt
   brings-needs (order.Kill w) q c b p n pc f = absurd f
   brings-needs (order.Lock mask action) q c b p n pc f = absurd f
   brings-needs (order.Access w) q c b p n pc f = absurd f
@@ -678,7 +681,7 @@ module _ (a : Air) (r : Aside) (rd : Round) (idle : Idle (layout_of a.image) a.i
   brings-needs (order.Permalock rfu s at) q c b p n pc f = absurd f
 
   -- a bank's number has two bits
-  bank-small : (o : Order) (c : Cover) (b p n pc h : ℕ) → Says a h o → Brings a c o b p n pc → b < 4
+  bank-small : (o : Order) (c : Option ℕ) (b p n pc h : ℕ) → Says a h o → Brings a c o b p n pc → b < 4
   bank-small (order.QueryRep k) c b p n pc h s f = absurd f
   bank-small (order.Ack k) c b p n pc h s f = absurd f
   bank-small (order.Query sel t x) c b p n pc h s f = absurd f
@@ -687,8 +690,8 @@ module _ (a : Air) (r : Aside) (rd : Round) (idle : Idle (layout_of a.image) a.i
   bank-small order.Nak c b p n pc h s f = absurd f
   bank-small order.ReqRn c b p n pc h s f = absurd f
   bank-small (order.Read x) c b p n pc h s f = absurd f
-  bank-small (order.Write x w) cover.Nothing b p n pc h s f = absurd f
-  bank-small (order.Write x w) (cover.Number k) b p n pc h s f =
+  bank-small (order.Write x w) None b p n pc h s f = absurd f
+  bank-small (order.Write x w) (Some k) b p n pc h s f =
       subst (λ (z : Span). z.bank < 4) f.0 (said-small a.frame a.bits (record { number = h; order = order.Write x w }) s).0
   bank-small (order.Kill w) c b p n pc h s f = absurd f
   bank-small (order.Lock mask action) c b p n pc h s f = absurd f
@@ -700,7 +703,7 @@ module _ (a : Air) (r : Aside) (rd : Round) (idle : Idle (layout_of a.image) a.i
   bank-small (order.ReadPermalock rfu x) c b p n pc h s f = absurd f
   bank-small (order.Permalock rfu x at) c b p n pc h s f = absurd f
 
-  brings-code : (o : Order) (q : Bool) (c : Cover) (b p n pc : ℕ) → Brings a c o b p n pc
+  brings-code : (o : Order) (q : Bool) (c : Option ℕ) (b p n pc : ℕ) → Brings a c o b p n pc
       → code_by q c o ≡ write_code (layout_of a.image) a.image q (span b p n) pc
   unfolding code_by
   brings-code (order.QueryRep k) q c b p n pc f = absurd f
@@ -711,8 +714,8 @@ module _ (a : Air) (r : Aside) (rd : Round) (idle : Idle (layout_of a.image) a.i
   brings-code order.Nak q c b p n pc f = absurd f
   brings-code order.ReqRn q c b p n pc f = absurd f
   brings-code (order.Read s) q c b p n pc f = absurd f
-  brings-code (order.Write s w) q cover.Nothing b p n pc f = absurd f
-  brings-code (order.Write s w) q (cover.Number k) b p n pc f = rw (f.0, f.1, f.2)
+  brings-code (order.Write s w) q None b p n pc f = absurd f
+  brings-code (order.Write s w) q (Some k) b p n pc f = rw (f.0, f.1, f.2)
   brings-code (order.Kill w) q c b p n pc f = absurd f
   brings-code (order.Lock mask action) q c b p n pc f = absurd f
   brings-code (order.Access w) q c b p n pc f = absurd f
@@ -722,7 +725,7 @@ module _ (a : Air) (r : Aside) (rd : Round) (idle : Idle (layout_of a.image) a.i
   brings-code (order.Permalock rfu s at) q c b p n pc f = absurd f
 
   module _ (l : 6 ≤ length a.room) where
-    error-lines : (q : Bool) (h : ℕ) (c : Cover) → Errors answer_of (layout_of a.image) a r rd q h c
+    error-lines : (q : Bool) (h : ℕ) (c : Option ℕ) → Errors answer_of (layout_of a.image) a r rd q h c
     unfolding code_by
     error-lines q h c =
         record {
@@ -741,7 +744,7 @@ module _ (a : Air) (r : Aside) (rd : Round) (idle : Idle (layout_of a.image) a.i
               (ap₂ (λ (t x : Bool). cond (t && x) (code.Error fault.Other) code.Nothing) (eq-eqb (kill_word (layout_of a.image) a.image 0) 0 u) (eq-eqb (kill_word (layout_of a.image) a.image 1) 0 v));
         }
 
-    lock-lines : (h : ℕ) (c : Cover) → Locks answer_of (layout_of a.image) a r rd h c
+    lock-lines : (h : ℕ) (c : Option ℕ) → Locks answer_of (layout_of a.image) a r rd h c
     unfolding code_by
     lock-lines h c =
         record {
@@ -771,7 +774,7 @@ alone-lines m =
       register_free = λ st r. refl;
     }
   where
-    linked-so : (q : Bool) (rd : Round) (h : ℕ) (c : Cover) (p : Half) (r : Aside)
+    linked-so : (q : Bool) (rd : Round) (h : ℕ) (c : Option ℕ) (p : Option Half) (r : Aside)
         → asked answer_of (awake (linked q (link rd h c p)) false r) m ask ≡ leaves 6 (awake (linked q (link rd h c p)) false r) [] []
     linked-so true rd h c p r = refl
     linked-so false rd h c p r = refl

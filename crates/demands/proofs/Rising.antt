@@ -1,4 +1,5 @@
 -- The words of every call go in rising address order. Assumes nothing.
+use Rattle.std.specs.Prelude.{Option, None, Some}
 use Prim.Native.Nat.{ℕ, zero, suc, ◌+◌, ◌/◌, ◌<◌}
 use mathlib.Core.Path.{sym, subst}
 use mathlib.Core.Bool.{Bool, true, false, cond}
@@ -55,17 +56,17 @@ rising-order c (order.Read s) = tt
 rising-order c (order.Write s w) = tt
 rising-order c (order.Kill w) = go (link_of c.state).half
   where
-    go : (p : Half) → Rising (half_kill c w p).words
-    go half.Nothing = tt
-    go (half.Access up) = tt
-    go (half.Kill up) = tt
+    go : (p : Option Half) → Rising (half_kill c w p).words
+    go None = tt
+    go (Some (half.Access up)) = tt
+    go (Some (half.Kill up)) = tt
 rising-order c (order.Lock mask action) = tt
 rising-order c (order.Access w) = go (link_of c.state).half
   where
-    go : (p : Half) → Rising (half_access c w p).words
-    go half.Nothing = tt
-    go (half.Access up) = tt
-    go (half.Kill up) = tt
+    go : (p : Option Half) → Rising (half_access c w p).words
+    go None = tt
+    go (Some (half.Access up)) = tt
+    go (Some (half.Kill up)) = tt
 rising-order c (order.BlockWrite s at) = rising-row _ _ s.count
 rising-order c (order.BlockErase s) = rising-row _ (λ j. 0) s.count
 rising-order c (order.ReadPermalock rfu s) = tt

@@ -1,5 +1,5 @@
 -- Every answer of every operation on the worked image and images beside it, computed (RULES 6.5). Assumes nothing.
-use Rattle.std.specs.Prelude.{ℕ, ◌≡◌, refl, false, List, [], ◌∷◌, take, replicate}
+use Rattle.std.specs.Prelude.{ℕ, ◌≡◌, refl, false, List, [], ◌∷◌, take, replicate, Some}
 use Rattle.bits.specs.Words.{word_at, with_word}
 use Rattle.bits.specs.Bits.{field_at, bits_of, words_bits}
 use Rattle.crc.specs.Crc.{crc_of}
@@ -97,19 +97,19 @@ numbers =
     ∷ p 19 (number secured worked (sending bad_sum 66)) (8 ∷ [])
     ∷ p 20 (number arbitrate worked (writing 12 5)) (9 ∷ [])
     ∷ p 21 (number killed worked (sending (0xC0 ∷ []) 8)) (9 ∷ [])
-    ∷ p 22 (number (waiting (half.Access 0x1111)) worked (sending access 56)) (12 ∷ [])
-    ∷ p 23 (number (waiting (half.Kill 0x4B48)) worked (sending kill2 59)) (12 ∷ [])
-    ∷ p 24 (number (waiting (half.Kill 0x4B49)) worked (sending kill1 59)) (12 ∷ [])
-    ∷ p 25 (number (waiting (half.Access 0)) worked (sending kill2 59)) (14 ∷ [])
-    ∷ p 26 (number (waiting (half.Kill 0x4B49)) worked (sending access 56)) (14 ∷ [])
-    ∷ p 27 (number (waiting (half.Kill 0x4B49)) worked (writing 12 5)) (14 ∷ [])
+    ∷ p 22 (number (waiting (Some (half.Access 0x1111))) worked (sending access 56)) (12 ∷ [])
+    ∷ p 23 (number (waiting (Some (half.Kill 0x4B48))) worked (sending kill2 59)) (12 ∷ [])
+    ∷ p 24 (number (waiting (Some (half.Kill 0x4B49))) worked (sending kill1 59)) (12 ∷ [])
+    ∷ p 25 (number (waiting (Some (half.Access 0))) worked (sending kill2 59)) (14 ∷ [])
+    ∷ p 26 (number (waiting (Some (half.Kill 0x4B49))) worked (sending access 56)) (14 ∷ [])
+    ∷ p 27 (number (waiting (Some (half.Kill 0x4B49))) worked (writing 12 5)) (14 ∷ [])
     ∷ p 28 (number secured worked (sending write16 66)) (10 ∷ [])
     ∷ p 29 (number secured worked (frame write16 66 0x5678 (replicate 5 0xAA) 5)) (4 ∷ [])
     ∷ p 30 (number secured worked (writing 4 5)) (4 ∷ [])
     ∷ p 31 (number secured worked (writing 12 4)) (11 ∷ [])
     ∷ p 32 (number secured worked (writing 12 5)) (0 ∷ [])
-    ∷ p 33 (number (waiting (half.Access 0)) worked (sending access 56)) (0 ∷ [])
-    ∷ p 34 (number (waiting (half.Kill 0x4B49)) worked (sending kill2 59)) (0 ∷ [])
+    ∷ p 33 (number (waiting (Some (half.Access 0))) worked (sending access 56)) (0 ∷ [])
+    ∷ p 34 (number (waiting (Some (half.Kill 0x4B49))) worked (sending kill2 59)) (0 ∷ [])
     ∷ p 35 (number secured worked (sending (0xC0 ∷ []) 8)) (0 ∷ [])
     -- asking, releasing, the register
     ∷ p 36 (alone off_session ask) (5 ∷ [])

@@ -1,7 +1,7 @@
 -- DEMAND 2 of any program A, command by command: for a good image with nothing pending, a session that the command is for, room and power
 -- enough: the reply's bits, the session and the words stored (RULES D2, 3.9 to 3.22, 4 and 11). Its proof: `demand-2` in proofs/Commands.
 -- Assumes nothing.
-use Rattle.std.specs.Prelude.{ℕ, ◌+◌, ◌-◌, ◌*◌, ◌%◌, ◌^◌, ◌≤◌, ◌<◌, ◌≡◌, ◌≢◌, ◌⊎◌, Bool, true, false, cond, not, ◌||◌, List, [], ◌∷◌, eqb, length, replicate}
+use Rattle.std.specs.Prelude.{ℕ, ◌+◌, ◌-◌, ◌*◌, ◌%◌, ◌^◌, ◌≤◌, ◌<◌, ◌≡◌, ◌≢◌, ◌⊎◌, Bool, true, false, cond, not, ◌||◌, List, [], ◌∷◌, eqb, length, replicate, Option, None, Some}
 use Rattle.std.specs.Int.Bits.{bit_xor, bit_or}
 use Rattle.bits.specs.Words.{word_at, Store, store, after}
 use Rattle.bits.specs.Bits.{field_at, words_bits}
@@ -24,8 +24,6 @@ use Rattle.replies.specs.Pack.{packed}
 use Rattle.rights.specs.Rights.{bank_of, locked_to}
 use Rattle.stores.specs.Stores.{change_stores, power_stores}
 use Rattle.states.specs.declared.Flags.{Flags}
-use Rattle.states.specs.declared.Cover.{Cover}
-use Rattle.states.specs.declared.Cover.TheVariants as cover
 use Rattle.states.specs.declared.Half.{Half}
 use Rattle.states.specs.declared.Half.TheVariants as half
 use Rattle.states.specs.declared.Link.{Link}
@@ -57,7 +55,7 @@ pub record Air : Type 0 where
 abbrev pub linked : Bool → Link → State
 linked secured k = cond secured (state.Secured k) (state.Open k)
 
-abbrev pub link : Round → ℕ → Cover → Half → Link
+abbrev pub link : Round → ℕ → Option ℕ → Option Half → Link
 link q h c p = record { round = q; handle = h; cover = c; half = p }
 
 -- what a command comes to: a state, a reply and the words stored
@@ -161,8 +159,8 @@ module _ (A : Program) (y : Layout) (a : Air) (r : Aside) (q : Round) where
     -- ACK with the number, or the handle where no half waits: PC and EPC; the cover number is used up
     pub ack : (n : ℕ) → Does 0 (order.Ack n) (state.Reply q n) (shows_epc y a (state.Acknowledged q n))
     pub ack-again : (n : ℕ) → Does 0 (order.Ack n) (state.Acknowledged q n) (shows_epc y a (state.Acknowledged q n))
-    pub ack-handle : (secured : Bool) (h : ℕ) (c : Cover)
-        → Does 0 (order.Ack h) (linked secured (link q h c half.Nothing)) (shows_epc y a (linked secured (plain_link q h)))
+    pub ack-handle : (secured : Bool) (h : ℕ) (c : Option ℕ)
+        → Does 0 (order.Ack h) (linked secured (link q h c None)) (shows_epc y a (linked secured (plain_link q h)))
     -- with another number: Arbitrate, with slot 0, also where a half waits
     pub ack_wrong : (st : State) (n k : ℕ) → Numbered st q n → k ≢ n → Does 0 (order.Ack k) st (quiet (state.Arbitrate q 0))
     -- Select, in every state but Killed: the flag that its action makes where the mask is the bank's bits, and where it is not
@@ -185,21 +183,21 @@ module _ (A : Program) (y : Layout) (a : Air) (r : Aside) (q : Round) where
         → Does n order.ReqRn (state.Acknowledged q n)
         (record { state = state.Open (plain_link q a.fresh); reply = reply.Number a.fresh; words = [] })
     -- Req_RN with the handle: the fresh word is the cover number
-    pub req_rn_cover : (secured : Bool) (h : ℕ) (c : Cover) (p : Half)
+    pub req_rn_cover : (secured : Bool) (h : ℕ) (c : Option ℕ) (p : Option Half)
         → Does h order.ReqRn (linked secured (link q h c p))
         (record {
-          state = linked secured (link q h (cover.Number a.fresh) p);
+          state = linked secured (link q h (Some a.fresh) p);
           reply = reply.Number a.fresh;
           words = [];
         })
     -- Read, where nothing is against it: the words that it asks for; with WordCount 0 all to the bank's end, or in EPC, if the pointer lies
     -- below L + 2, those to word L + 1
-    pub read : (secured : Bool) (h : ℕ) (c : Cover) (b p n k : ℕ) → Readable y a.image secured b p n k
-        → Does h (order.Read (span b p n)) (linked secured (link q h c half.Nothing))
+    pub read : (secured : Bool) (h : ℕ) (c : Option ℕ) (b p n k : ℕ) → Readable y a.image secured b p n k
+        → Does h (order.Read (span b p n)) (linked secured (link q h c None))
         (record { state = linked secured (plain_link q h); reply = reply.Words ((bank_of y b).at + p) k h; words = [] })
     -- Write: the word without its cover, which is used up
     pub write : (secured : Bool) (h c : ℕ) (b p w : ℕ) → Writable y a.image secured b p 1 (bit_xor w c)
-        → Does h (order.Write (span b p 1) w) (linked secured (link q h (cover.Number c) half.Nothing))
+        → Does h (order.Write (span b p 1) w) (linked secured (link q h (Some c) None))
         (record {
           state = linked secured (plain_link q h);
           reply = reply.Success h;
@@ -207,19 +205,19 @@ module _ (A : Program) (y : Layout) (a : Air) (r : Aside) (q : Round) where
         })
     -- Kill, the first half: it waits, uncovered, where the kill password is nonzero
     pub kill_first : (secured : Bool) (h c w : ℕ) → (kill_word y a.image 0 ≢ 0) ⊎ (kill_word y a.image 1 ≢ 0)
-        → Does h (order.Kill w) (linked secured (link q h (cover.Number c) half.Nothing))
+        → Does h (order.Kill w) (linked secured (link q h (Some c) None))
         (record {
-          state = linked secured (link q h cover.Nothing (half.Kill (bit_xor w c)));
+          state = linked secured (link q h None (Some (half.Kill (bit_xor w c))));
           reply = reply.Number h;
           words = [];
         })
     -- Kill, the second: where both are the password's, killed is stored as 1
     pub kill_second : (secured : Bool) (h c w up : ℕ) → up ≡ kill_word y a.image 0 → bit_xor w c ≡ kill_word y a.image 1
-        → Does h (order.Kill w) (linked secured (link q h (cover.Number c) (half.Kill up)))
+        → Does h (order.Kill w) (linked secured (link q h (Some c) (Some (half.Kill up))))
         (record { state = state.Killed; reply = reply.Success h; words = store (y.status.at + 1) 1 ∷ [] })
     -- Lock, in Secured: the masked bits of the lock word are the action's
-    pub lock : (h : ℕ) (c : Cover) (mask action : ℕ) → Lockable y a.image mask action
-        → Does h (order.Lock mask action) (state.Secured (link q h c half.Nothing))
+    pub lock : (h : ℕ) (c : Option ℕ) (mask action : ℕ) → Lockable y a.image mask action
+        → Does h (order.Lock mask action) (state.Secured (link q h c None))
         (record {
           state = state.Secured (plain_link q h);
           reply = reply.Success h;
@@ -227,39 +225,39 @@ module _ (A : Program) (y : Layout) (a : Air) (r : Aside) (q : Round) where
         })
     -- Access, the first half, and the second where both are the password's
     pub access-first : (secured : Bool) (h c w : ℕ)
-        → Does h (order.Access w) (linked secured (link q h (cover.Number c) half.Nothing))
+        → Does h (order.Access w) (linked secured (link q h (Some c) None))
         (record {
-          state = linked secured (link q h cover.Nothing (half.Access (bit_xor w c)));
+          state = linked secured (link q h None (Some (half.Access (bit_xor w c))));
           reply = reply.Number h;
           words = [];
         })
     pub access-second : (secured : Bool) (h c w up : ℕ) → up ≡ access_word y a.image 0 → bit_xor w c ≡ access_word y a.image 1
-        → Does h (order.Access w) (linked secured (link q h (cover.Number c) (half.Access up)))
+        → Does h (order.Access w) (linked secured (link q h (Some c) (Some (half.Access up))))
         (record { state = state.Secured (plain_link q h); reply = reply.Number h; words = [] })
     -- BlockWrite: the words of the frame
-    pub block_write : (secured : Bool) (h : ℕ) (c : Cover) (b p n at : ℕ) → 1 ≤ n
+    pub block_write : (secured : Bool) (h : ℕ) (c : Option ℕ) (b p n at : ℕ) → 1 ≤ n
         → Writable y a.image secured b p n (pc_sent a at p)
-        → Does h (order.BlockWrite (span b p n) at) (linked secured (link q h c half.Nothing))
+        → Does h (order.BlockWrite (span b p n) at) (linked secured (link q h c None))
         (record {
           state = linked secured (plain_link q h);
           reply = reply.Success h;
           words = words_to ((bank_of y b).at + p) a.frame at n;
         })
     -- BlockErase: zeros
-    pub block_erase : (secured : Bool) (h : ℕ) (c : Cover) (b p n : ℕ) → 1 ≤ n → Writable y a.image secured b p n 0
-        → Does h (order.BlockErase (span b p n)) (linked secured (link q h c half.Nothing))
+    pub block_erase : (secured : Bool) (h : ℕ) (c : Option ℕ) (b p n : ℕ) → 1 ≤ n → Writable y a.image secured b p n 0
+        → Does h (order.BlockErase (span b p n)) (linked secured (link q h c None))
         (record {
           state = linked secured (plain_link q h);
           reply = reply.Success h;
           words = below (λ j. store ((bank_of y b).at + p + j) 0) n;
         })
     -- BlockPermalock that reads: PERMA words
-    pub permalock_read : (h : ℕ) (c : Cover) (p n : ℕ) → 1 ≤ n → p + n ≤ y.perma.words
-        → Does h (order.ReadPermalock 0 (span 3 p n)) (state.Secured (link q h c half.Nothing))
+    pub permalock_read : (h : ℕ) (c : Option ℕ) (p n : ℕ) → 1 ≤ n → p + n ≤ y.perma.words
+        → Does h (order.ReadPermalock 0 (span 3 p n)) (state.Secured (link q h c None))
         (record { state = state.Secured (plain_link q h); reply = reply.Words (y.perma.at + p) n h; words = [] })
     -- and one that locks: masked bits are added
-    pub permalock : (h : ℕ) (c : Cover) (p n at : ℕ) → 1 ≤ n → PermaLockable y a.image p n a.frame at
-        → Does h (order.Permalock 0 (span 3 p n) at) (state.Secured (link q h c half.Nothing))
+    pub permalock : (h : ℕ) (c : Option ℕ) (p n at : ℕ) → 1 ≤ n → PermaLockable y a.image p n a.frame at
+        → Does h (order.Permalock 0 (span 3 p n) at) (state.Secured (link q h c None))
         (record {
           state = state.Secured (plain_link q h);
           reply = reply.Success h;

@@ -1,6 +1,6 @@
 -- What the buyer asked for (RULES D1 to D3), as statements of any program A. Their proofs of the tag: `demand-1`, `demand-2`, `demand-3`
 -- and `any-run` in proofs/. Assumes nothing.
-use Rattle.std.specs.Prelude.{ℕ, ◌+◌, ◌*◌, ◌/◌, ◌^◌, ◌≤◌, ◌<◌, ◌≡◌, ◌⊎◌, Bool, true, false, cond, ◌||◌, List, [], ◌∷◌, ◌++◌, eqb, length, take}
+use Rattle.std.specs.Prelude.{ℕ, ◌+◌, ◌*◌, ◌/◌, ◌^◌, ◌≤◌, ◌<◌, ◌≡◌, ◌⊎◌, Bool, true, false, cond, ◌||◌, List, [], ◌∷◌, ◌++◌, eqb, length, take, Option, None, Some}
 use Rattle.bits.specs.Words.{Bytes, word_at, Store, after}
 use Rattle.image.specs.declared.Layout.{Layout}
 use Rattle.image.specs.Layout.{layout_of, end, blocks_in, within}
@@ -18,8 +18,7 @@ use Rattle.stores.specs.Cuts.{Cut, reaches}
 use Rattle.frames.specs.declared.Round.{Round}
 use Rattle.states.specs.declared.State.{State}
 use Rattle.states.specs.declared.State.TheVariants as state
-use Rattle.tag.specs.declared.Power.{Power}
-use Rattle.tag.specs.declared.Power.TheVariants as power
+use Rattle.tag.specs.declared.Live.{Live}
 use Rattle.tag.specs.declared.Session.{Session}
 use Rattle.tag.specs.declared.Outcome.{Outcome}
 use Rattle.tag.specs.Session.{off_session}
@@ -122,9 +121,9 @@ Reachable (state.Open k) = Bounded k.round
 Reachable (state.Secured k) = Bounded k.round
 Reachable state.Killed = Unit {0}
 
-abbrev pub Reached : Power → Type 0
-Reached power.Off = Unit {0}
-Reached (power.On l) = Reachable l.state
+abbrev pub Reached : Option Live → Type 0
+Reached None = Unit {0}
+Reached (Some l) = Reachable l.state
 
 pub record Demand1 (A : Program) : Type 0 where
   pub check : (m : List ℕ) (p q : Fit) → meaning p ≡ check_of m → meaning q ≡ check_of m → p ≡ q

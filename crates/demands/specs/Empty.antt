@@ -1,5 +1,5 @@
 -- Empty programs fall (RULES 7.3), each to the demand that rules it out, at a named input. Assumes nothing.
-use Rattle.std.specs.Prelude.{ℕ, ◌≤◌, ◌≡◌, refl, false, List, [], ◌∷◌, ◌++◌, take, replicate, get_or}
+use Rattle.std.specs.Prelude.{ℕ, ◌≤◌, ◌≡◌, refl, false, List, [], ◌∷◌, ◌++◌, take, replicate, get_or, None, Some}
 use Rattle.std.proofs.Common.{sym, ap, ◌∙◌, arith, lit<, lit≤}
 use Rattle.bits.specs.Words.{word_at, with_word, after, store}
 use Rattle.bits.specs.Bits.{field_at, bits_of, words_bits}
@@ -16,7 +16,6 @@ use Rattle.states.specs.Commands.{plain_link}
 use Rattle.stores.specs.Stores.{power_stores, change_stores}
 use Rattle.stores.specs.Cuts.{Cut}
 use Rattle.stores.specs.Worked.{worked-bytes}
-use Rattle.states.specs.declared.Cover.TheVariants as cover
 use Rattle.states.specs.declared.Half.TheVariants as half
 use Rattle.states.specs.declared.Link.{Link}
 use Rattle.states.specs.declared.State.TheVariants as state
@@ -77,7 +76,7 @@ fresh = record { flags = new_flags; register = clear }
 
 -- what demand 2 says of P7's Write and of a Read of USER 2 and 3, both in Open, and what that is on the worked image
 abbrev pub link_in : Link
-link_in = link round 0x1234 (cover.Number 0x5A5A) half.Nothing
+link_in = link round 0x1234 (Some 0x5A5A) None
 
 abbrev pub opened : Session
 opened = awake (state.Open link_in) false fresh
@@ -96,7 +95,7 @@ pub must-write : (A : Program) → Demand2 A → answers_to A (air write3 66) op
 must-write A d = (d.radio worked_layout (air write3 66) fresh round met.idle).write false 0x1234 0x5A5A 3 3 0xF197 met.write_right met.write.0 met.write.1
 
 pub must-read : (A : Program) → Demand2 A → answers_to A (air read_two 58) opened ≡ reads
-must-read A d = (d.radio worked_layout (air read_two 58) fresh round met.idle).read false 0x1234 (cover.Number 0x5A5A) 3 2 2 2 met.read_right met.read.0 met.read.1
+must-read A d = (d.radio worked_layout (air read_two 58) fresh round met.idle).read false 0x1234 (Some 0x5A5A) 3 2 2 2 met.read_right met.read.0 met.read.1
 
 record Computed : Type 0 where
   written : get_or writes.room 0 0 ≡ 0x09

@@ -10,7 +10,7 @@
 --   uses up no cover number       Demand 2: radio.write
 --   reads the EPC to the bank's end with WordCount 0                  Demand 2: radio.read
 --   matches a Query by the flag as it was before it is inverted       Demand 2: radio.rounds.query_passes
-use Rattle.std.specs.Prelude.{ℕ, suc, ◌-◌, ◌≡◌, refl, ◌≢◌, Bool, true, false, cond, ◌&&◌, eqb, List, ◌++◌, take, drop}
+use Rattle.std.specs.Prelude.{ℕ, suc, ◌-◌, ◌≡◌, refl, ◌≢◌, Bool, true, false, cond, ◌&&◌, eqb, List, ◌++◌, take, drop, None, Some}
 use Rattle.std.proofs.Common.{sym, ap, ◌∙◌, inl, ⊎_elim, lit≤, arith}
 use Rattle.std.proofs.lemmas.Bool.{false≢true}
 use Rattle.bits.specs.Words.{word_at, with_word}
@@ -29,7 +29,6 @@ use Rattle.frames.specs.Frames.{span, heard_of, checksum_right, checksum5_right}
 use Rattle.replies.specs.Pack.{filled, packed}
 use Rattle.replies.specs.Replies.{checked}
 use Rattle.rights.specs.Rights.{read_code, write_code}
-use Rattle.states.specs.declared.Cover.TheVariants as cover
 use Rattle.states.specs.declared.Half.TheVariants as half
 use Rattle.states.specs.declared.State.TheVariants as state
 use Rattle.states.specs.declared.Link.{Link}
@@ -143,7 +142,7 @@ matches_early =
 -- right upper half waits, with another CRC-16, with another handle, and while the port is held; a Query of session 2, target A, in
 -- Acknowledged of that session; a Read of the EPC from word 0 on, where stale words follow it
 abbrev other : Session
-other = awake (state.Open (link round 0x4321 (cover.Number 0x5A5A) half.Nothing)) false fresh
+other = awake (state.Open (link round 0x4321 (Some 0x5A5A) None)) false fresh
 
 abbrev arbitrate : Session
 arbitrate = awake (state.Arbitrate round 3) false fresh
@@ -152,13 +151,13 @@ abbrev acknowledged : Session
 acknowledged = awake (state.Acknowledged round 0xBEEF) false fresh
 
 record Numbers : Type 0 where
-  password : (answers_to takes_any_password (air access 56) (waiting (half.Access 0x1111))).number ≡ 0
-  between : (answers_to hears_between (air write3 66) (waiting (half.Access 0))).number ≡ 0
-  broken : (answers_to calls_broken_wrong (air write3 66) (waiting (half.Access 0))).number ≡ 12
-  mistyped : (answers_to calls_wrong_broken (air access 56) (waiting (half.Access 0x1111))).number ≡ 14
+  password : (answers_to takes_any_password (air access 56) (waiting (Some (half.Access 0x1111)))).number ≡ 0
+  between : (answers_to hears_between (air write3 66) (waiting (Some (half.Access 0)))).number ≡ 0
+  broken : (answers_to calls_broken_wrong (air write3 66) (waiting (Some (half.Access 0)))).number ≡ 12
+  mistyped : (answers_to calls_wrong_broken (air access 56) (waiting (Some (half.Access 0x1111)))).number ≡ 14
   handle : (answers_to ignores_handle (air write3 66) other).number ≡ 0
   checksum : (answers_to ignores_checksum (air bad_sum 66) opened).number ≡ 0
-  held : (answers_to hears_while_held (air write3 66) (awake (state.Open (link round 0x1234 (cover.Number 0x5A5A) half.Nothing)) true fresh)).number ≡ 0
+  held : (answers_to hears_while_held (air write3 66) (awake (state.Open (link round 0x1234 (Some 0x5A5A) None)) true fresh)).number ≡ 0
   first : (answers_to nine_before_eight (air bad_sum 66) arbitrate).number ≡ 9
   wrong : heard_of bad_sum 66 ≡ heard.refused 8
   flag : (answers_to matches_early (air query0 22) acknowledged).reply ≡ 16
@@ -177,7 +176,7 @@ unfolding worked word_at
 other_half e = omega (arith, e)
 
 -- what Refusals asks of any program: 12 to that Access, 14 to that Write
-must-refuse : (A : Program) → Refusals A → (answers_to A (air access 56) (waiting (half.Access 0x1111))).number ≡ 12
+must-refuse : (A : Program) → Refusals A → (answers_to A (air access 56) (waiting (Some (half.Access 0x1111)))).number ≡ 12
 must-refuse A d =
     ap (λ (r : Result). r.number) ((d.dropped worked_layout (air access 56) fresh round met.idle).access true 0x1234 0x5A5A 0x1111 0x5A5A met.access_half.0 (inl other_half))
 
@@ -185,13 +184,13 @@ pub password-caught : Refusals takes_any_password → ⊥
 password-caught d = let z : ◌≡◌ {A = ℕ} 0 12 = sym numbers.password ∙ must-refuse takes_any_password d in omega arith
 
 -- a Write comes between the halves
-write-other : Other (half.Access 0) (order.Write (span 3 3 1) 0xF197)
+write-other : Other (Some (half.Access 0)) (order.Write (span 3 3 1) 0xF197)
 write-other = (tt, λ e. let z : ◌≡◌ {A = ℕ} 0 1 = cc in omega arith, λ h e. let z : ◌≡◌ {A = ℕ} 0 1 = cc in omega arith)
 
-must-break : (A : Program) → Refusals A → (answers_to A (air write3 66) (waiting (half.Access 0))).number ≡ 14
+must-break : (A : Program) → Refusals A → (answers_to A (air write3 66) (waiting (Some (half.Access 0)))).number ≡ 14
 must-break A d =
     ap (λ (r : Result). r.number)
-    ((d.dropped worked_layout (air write3 66) fresh round met.idle).between true 0x1234 (cover.Number 0x5A5A) (half.Access 0) (order.Write (span 3 3 1) 0xF197) met.write.0 tt write-other)
+    ((d.dropped worked_layout (air write3 66) fresh round met.idle).between true 0x1234 (Some 0x5A5A) (Some (half.Access 0)) (order.Write (span 3 3 1) 0xF197) met.write.0 tt write-other)
 
 pub between-caught : Refusals hears_between → ⊥
 between-caught d = let z : ◌≡◌ {A = ℕ} 0 14 = sym numbers.between ∙ must-break hears_between d in omega arith
@@ -207,7 +206,7 @@ handle-caught d =
     let z : ◌≡◌ {A = ℕ} 0 9 =
     sym numbers.handle
     ∙ ap (λ (r : Result). r.number)
-    ((d.wrong worked_layout (air write3 66) fresh round met.idle).handle false 0x4321 (cover.Number 0x5A5A) half.Nothing 0x1234 (order.Write (span 3 3 1) 0xF197) met.write.0 tt (inl other-handle)) in
+    ((d.wrong worked_layout (air write3 66) fresh round met.idle).handle false 0x4321 (Some 0x5A5A) None 0x1234 (order.Write (span 3 3 1) 0xF197) met.write.0 tt (inl other-handle)) in
     omega arith
 
 pub checksum-caught : Refusals ignores_checksum → ⊥
@@ -215,14 +214,14 @@ checksum-caught d =
     let z : ◌≡◌ {A = ℕ} 0 8 =
     sym numbers.checksum
     ∙ ap (λ (r : Result). r.number)
-    ((d.unheard worked_layout (air bad_sum 66) (state.Open (link round 0x1234 (cover.Number 0x5A5A) half.Nothing)) fresh met.idle).checksum numbers.wrong) in
+    ((d.unheard worked_layout (air bad_sum 66) (state.Open (link round 0x1234 (Some 0x5A5A) None)) fresh met.idle).checksum numbers.wrong) in
     omega arith
 
 pub held-caught : Refusals hears_while_held → ⊥
 held-caught d =
     let z : ◌≡◌ {A = ℕ} 0 6 =
     sym numbers.held
-    ∙ ap (λ (r : Result). r.number) ((d.unready (air write3 66)).held worked_layout (state.Open (link round 0x1234 (cover.Number 0x5A5A) half.Nothing)) fresh met.idle) in
+    ∙ ap (λ (r : Result). r.number) ((d.unready (air write3 66)).held worked_layout (state.Open (link round 0x1234 (Some 0x5A5A) None)) fresh met.idle) in
     omega arith
 
 pub order-caught : Refusals nine_before_eight → ⊥

@@ -1,5 +1,5 @@
 -- Answer 12 as it was before broken halves got 14 (RULES 5.14), so that a 12 in older logs can be read. Assumes nothing.
-use Rattle.std.specs.Prelude.{ℕ, ◌≡◌, Bool, true, false, cond, not, ◌&&◌, ◌||◌, List, [], ◌∷◌, ◌++◌, eqb, take, drop}
+use Rattle.std.specs.Prelude.{ℕ, ◌≡◌, Bool, true, false, cond, not, ◌&&◌, ◌||◌, List, [], ◌∷◌, ◌++◌, eqb, take, drop, Option, None, Some}
 use Rattle.image.specs.declared.Layout.{Layout}
 use Rattle.states.specs.declared.Half.{Half}
 use Rattle.states.specs.declared.Half.TheVariants as half
@@ -13,18 +13,18 @@ use Rattle.demands.specs.Demands.{numbers_of}
 use Rattle.tag.specs.Table.{Input, layout, state_of, command, wrong_password, broken_halves, dropped, frame_of}
 
 -- the lower half makes a wrong password, or another command to this tag comes between the halves
-abbrev pub breaks : Layout → List ℕ → Link → Half → Part → Bool
-breaks y m k half.Nothing p = false
-breaks y m k (half.Access up) part.Between = false
-breaks y m k (half.Access up) (part.Access h) = not (eqb up (access_word y m 0) && eqb (uncovered k.cover h) (access_word y m 1))
-breaks y m k (half.Access up) (part.Kill h) = true
-breaks y m k (half.Access up) (part.To n) = eqb k.handle n
-breaks y m k (half.Access up) part.Other = true
-breaks y m k (half.Kill up) part.Between = false
-breaks y m k (half.Kill up) (part.Access h) = true
-breaks y m k (half.Kill up) (part.Kill h) = not (eqb up (kill_word y m 0) && eqb (uncovered k.cover h) (kill_word y m 1))
-breaks y m k (half.Kill up) (part.To n) = eqb k.handle n
-breaks y m k (half.Kill up) part.Other = true
+abbrev pub breaks : Layout → List ℕ → Link → Option Half → Part → Bool
+breaks y m k None p = false
+breaks y m k (Some (half.Access up)) part.Between = false
+breaks y m k (Some (half.Access up)) (part.Access h) = not (eqb up (access_word y m 0) && eqb (uncovered k.cover h) (access_word y m 1))
+breaks y m k (Some (half.Access up)) (part.Kill h) = true
+breaks y m k (Some (half.Access up)) (part.To n) = eqb k.handle n
+breaks y m k (Some (half.Access up)) part.Other = true
+breaks y m k (Some (half.Kill up)) part.Between = false
+breaks y m k (Some (half.Kill up)) (part.Access h) = true
+breaks y m k (Some (half.Kill up)) (part.Kill h) = not (eqb up (kill_word y m 0) && eqb (uncovered k.cover h) (kill_word y m 1))
+breaks y m k (Some (half.Kill up)) (part.To n) = eqb k.handle n
+breaks y m k (Some (half.Kill up)) part.Other = true
 
 abbrev pub broken : Input → Bool
 broken i = let k = link_of (state_of i) in breaks (layout i) i.image k k.half (asks_of (command i).order).part

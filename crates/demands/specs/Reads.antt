@@ -1,6 +1,6 @@
 -- Reads of the EPC with WordCount 0 (RULES 3.20) and Reads beside them, computed; and what demand 2 asks where stale words follow. Assumes
 -- nothing.
-use Rattle.std.specs.Prelude.{ℕ, ◌+◌, ◌*◌, ◌≡◌, refl, ◌≢◌, true, List, [], ◌∷◌, ◌++◌, length, replicate}
+use Rattle.std.specs.Prelude.{ℕ, ◌+◌, ◌*◌, ◌≡◌, refl, ◌≢◌, true, List, [], ◌∷◌, ◌++◌, length, replicate, Some}
 use Rattle.std.proofs.Common.{ap, ◌∙◌, inl, inr, arith, lit<, lit≤}
 use Rattle.bits.specs.Words.{word_at, with_word}
 use Rattle.bits.specs.Bits.{field_at, bits_of, words_bits}
@@ -17,7 +17,6 @@ use Rattle.replies.specs.declared.Reply.TheVariants as reply
 use Rattle.replies.specs.Pack.{filled, packed}
 use Rattle.replies.specs.Replies.{checked, reply_bits}
 use Rattle.rights.specs.Rights.{bank_of, read_code}
-use Rattle.states.specs.declared.Cover.TheVariants as cover
 use Rattle.states.specs.declared.State.TheVariants as state
 use Rattle.states.specs.Commands.{plain_link}
 use Rattle.tag.specs.Result.{Result}
@@ -127,5 +126,5 @@ met =
 pub must-stop : (A : Program) → Demand2 A → (answers_to A long_read secured).reply ≡ 97
 must-stop A d =
     ap (λ (r : Result). r.reply)
-    ((d.radio (layout_of stale) long_read fresh round met.idle).read true 0x1234 (cover.Number 0x5A5A) 1 0 0 4 met.readable met.says met.enough)
+    ((d.radio (layout_of stale) long_read fresh round met.idle).read true 0x1234 (Some 0x5A5A) 1 0 0 4 met.readable met.says met.enough)
     ∙ met.four

@@ -1,7 +1,7 @@
 -- WHEN a call is refused (RULES 5), line by line in the rules' own terms: of any program A. Each line stands under the ones before it: an
 -- image that is good with nothing pending, a port that is free or held as the call needs it, a frame that says an order, a state that
 -- hears it. Assumes nothing.
-use Rattle.std.specs.Prelude.{ℕ, ◌+◌, ◌*◌, ◌%◌, ◌≤◌, ◌<◌, ◌≡◌, ◌≢◌, ◌⊎◌, Bool, true, false, List, [], length}
+use Rattle.std.specs.Prelude.{ℕ, ◌+◌, ◌*◌, ◌%◌, ◌≤◌, ◌<◌, ◌≡◌, ◌≢◌, ◌⊎◌, Bool, true, false, List, [], length, Option, None, Some}
 use Rattle.std.specs.Int.Bits.{bit_xor}
 use Rattle.bits.specs.Bits.{bit_at}
 use Rattle.image.specs.declared.Layout.{Layout}
@@ -18,8 +18,6 @@ use Rattle.replies.specs.declared.Reply.TheVariants as reply
 use Rattle.replies.specs.Replies.{reply_bits}
 use Rattle.replies.specs.Pack.{packed}
 use Rattle.rights.specs.Rights.{bank_of, pwd_bit, perma_bit, locked_to}
-use Rattle.states.specs.declared.Cover.{Cover}
-use Rattle.states.specs.declared.Cover.TheVariants as cover
 use Rattle.states.specs.declared.Half.{Half}
 use Rattle.states.specs.declared.Half.TheVariants as half
 use Rattle.states.specs.declared.State.{State}
@@ -55,9 +53,9 @@ errs a r q secured h e =
     }
 
 -- a cover number is there
-abbrev pub Covered : Cover → Type 0
-Covered cover.Nothing = ⊥
-Covered (cover.Number n) = Unit {0}
+abbrev pub Covered : Option ℕ → Type 0
+Covered None = ⊥
+Covered (Some n) = Unit {0}
 
 -- a command to the tag with its number: not NAK and none of inventory, which carry no number before a CRC-16
 abbrev pub Addressed : Order → Type 0
@@ -79,7 +77,7 @@ Addressed (order.ReadPermalock rfu s) = Unit {0}
 Addressed (order.Permalock rfu s p) = Unit {0}
 
 -- 3.14, 3.17 and 3.20: what a command needs beside the handle: Secured, a cover number, a range of at least 1, an RFU byte 0
-abbrev pub Needs : Bool → Cover → Order → Type 0
+abbrev pub Needs : Bool → Option ℕ → Order → Type 0
 Needs secured c (order.QueryRep k) = Unit {0}
 Needs secured c (order.Ack n) = Unit {0}
 Needs secured c (order.Query sel t q) = Unit {0}
@@ -98,13 +96,13 @@ Needs secured c (order.ReadPermalock rfu s) = (secured ≡ true) × (rfu ≡ 0) 
 Needs secured c (order.Permalock rfu s p) = (secured ≡ true) × (rfu ≡ 0) × (1 ≤ s.count)
 
 -- 3.15: between the halves of a password any command to this tag is another but Req_RN and the one that brings the second half
-abbrev pub Other : Half → Order → Type 0
-Other half.Nothing o = ⊥
-Other (half.Access up) o = Addressed o × (o ≢ order.ReqRn) × ((h : ℕ) → o ≢ order.Access h)
-Other (half.Kill up) o = Addressed o × (o ≢ order.ReqRn) × ((h : ℕ) → o ≢ order.Kill h)
+abbrev pub Other : Option Half → Order → Type 0
+Other None o = ⊥
+Other (Some (half.Access up)) o = Addressed o × (o ≢ order.ReqRn) × ((h : ℕ) → o ≢ order.Access h)
+Other (Some (half.Kill up)) o = Addressed o × (o ≢ order.ReqRn) × ((h : ℕ) → o ≢ order.Kill h)
 
 -- what a Write, BlockWrite or BlockErase brings for EPC word 1
-abbrev pub Brings : Air → Cover → Order → ℕ → ℕ → ℕ → ℕ → Type 0
+abbrev pub Brings : Air → Option ℕ → Order → ℕ → ℕ → ℕ → ℕ → Type 0
 Brings a c (order.QueryRep k) b p n pc = ⊥
 Brings a c (order.Ack k) b p n pc = ⊥
 Brings a c (order.Query sel t q) b p n pc = ⊥
@@ -113,8 +111,8 @@ Brings a c (order.Select x at) b p n pc = ⊥
 Brings a c order.Nak b p n pc = ⊥
 Brings a c order.ReqRn b p n pc = ⊥
 Brings a c (order.Read s) b p n pc = ⊥
-Brings a (cover.Number k) (order.Write s w) b p n pc = (s ≡ span b p 1) × (n ≡ 1) × (pc ≡ bit_xor w k)
-Brings a cover.Nothing (order.Write s w) b p n pc = ⊥
+Brings a (Some k) (order.Write s w) b p n pc = (s ≡ span b p 1) × (n ≡ 1) × (pc ≡ bit_xor w k)
+Brings a None (order.Write s w) b p n pc = ⊥
 Brings a c (order.Kill h) b p n pc = ⊥
 Brings a c (order.Lock mask action) b p n pc = ⊥
 Brings a c (order.Access h) b p n pc = ⊥
@@ -136,10 +134,10 @@ pub record Unheard (A : Program) (a : Air) (st : State) (r : Aside) : Type 0 whe
   pub checksum : heard_of a.frame a.bits ≡ heard.refused 8 → answers_to A a (awake st false r) ≡ stays 8 a (awake st false r)
 
 -- a half waits
-abbrev pub Waits : Half → Type 0
-Waits half.Nothing = ⊥
-Waits (half.Access up) = Unit {0}
-Waits (half.Kill up) = Unit {0}
+abbrev pub Waits : Option Half → Type 0
+Waits None = ⊥
+Waits (Some (half.Access up)) = Unit {0}
+Waits (Some (half.Kill up)) = Unit {0}
 
 -- 9: a command that the session is not in a state for
 pub record OutOfPlace (A : Program) (a : Air) (r : Aside) (q : Round) : Type 0 where
@@ -165,7 +163,7 @@ pub record OutOfPlace (A : Program) (a : Air) (r : Aside) (q : Round) : Type 0 w
   pub acknowledged : (m n : ℕ) (o : Order) → Says a n o → Addressed o → (n ≢ m) ⊎ (o ≢ order.ReqRn)
       → answers_to A a (awake (state.Acknowledged q m) false r) ≡ stays 9 a (awake (state.Acknowledged q m) false r)
   -- with another number than the handle, or without what it needs
-  pub handle : (secured : Bool) (h : ℕ) (c : Cover) (p : Half) (n : ℕ) (o : Order) → Says a n o → Addressed o
+  pub handle : (secured : Bool) (h : ℕ) (c : Option ℕ) (p : Option Half) (n : ℕ) (o : Order) → Says a n o → Addressed o
       → (n ≢ h) ⊎ (Needs secured c o → ⊥)
       → answers_to A a (awake (linked secured (link q h c p)) false r) ≡ stays 9 a (awake (linked secured (link q h c p)) false r)
 
@@ -174,21 +172,21 @@ pub record Dropped (A : Program) (y : Layout) (a : Air) (r : Aside) (q : Round) 
   -- 12: the lower half comes, and the password is wrong
   pub access : (secured : Bool) (h c up w : ℕ) → Says a h (order.Access w)
       → (up ≢ access_word y a.image 0) ⊎ (bit_xor w c ≢ access_word y a.image 1)
-      → answers_to A a (awake (linked secured (link q h (cover.Number c) (half.Access up))) false r) ≡ drops 12 a r q
+      → answers_to A a (awake (linked secured (link q h (Some c) (Some (half.Access up)))) false r) ≡ drops 12 a r q
   pub kill : (secured : Bool) (h c up w : ℕ) → Says a h (order.Kill w)
       → (up ≢ kill_word y a.image 0) ⊎ (bit_xor w c ≢ kill_word y a.image 1)
-      → answers_to A a (awake (linked secured (link q h (cover.Number c) (half.Kill up))) false r) ≡ drops 12 a r q
+      → answers_to A a (awake (linked secured (link q h (Some c) (Some (half.Kill up)))) false r) ≡ drops 12 a r q
   -- 14: another command comes between the halves; an ACK with the handle is a command to this tag
-  pub between : (secured : Bool) (h : ℕ) (c : Cover) (p : Half) (o : Order) → Says a h o → Needs secured c o → Other p o
+  pub between : (secured : Bool) (h : ℕ) (c : Option ℕ) (p : Option Half) (o : Order) → Says a h o → Needs secured c o → Other p o
       → answers_to A a (awake (linked secured (link q h c p)) false r) ≡ drops 14 a r q
-  pub ack : (secured : Bool) (h n : ℕ) (c : Cover) (p : Half) → Says a n (order.Ack h) → Waits p
+  pub ack : (secured : Bool) (h n : ℕ) (c : Option ℕ) (p : Option Half) → Says a n (order.Ack h) → Waits p
       → answers_to A a (awake (linked secured (link q h c p)) false r) ≡ drops 14 a r q
 
 -- 10: an error code, no half waiting and room for the reply of 41 bits, 6 bytes
-module _ (A : Program) (y : Layout) (a : Air) (r : Aside) (q : Round) (secured : Bool) (h : ℕ) (c : Cover) where
+module _ (A : Program) (y : Layout) (a : Air) (r : Aside) (q : Round) (secured : Bool) (h : ℕ) (c : Option ℕ) where
   -- the tag with this handle and cover number, no half waiting, gives the error reply of this code
   abbrev pub Gets : ℕ → Type 0
-  Gets code = answers_to A a (awake (linked secured (link q h c half.Nothing)) false r) ≡ errs a r q secured h code
+  Gets code = answers_to A a (awake (linked secured (link q h c None)) false r) ≡ errs a r q secured h code
 
   pub record Errors : Type 0 where
     -- Read
@@ -210,11 +208,11 @@ module _ (A : Program) (y : Layout) (a : Air) (r : Aside) (q : Round) (secured :
         → AllRight y a.image secured b p n → (TakesPc b p n → length_of pc + 2 ≤ y.epc.words) → pairs_in y < n
         → Gets 0x00
     -- the first Kill with a zero kill password
-    pub kill-zero : (k w : ℕ) → c ≡ cover.Number k → Says a h (order.Kill w) → kill_word y a.image 0 ≡ 0 → kill_word y a.image 1 ≡ 0
+    pub kill-zero : (k w : ℕ) → c ≡ Some k → Says a h (order.Kill w) → kill_word y a.image 0 ≡ 0 → kill_word y a.image 1 ≡ 0
         → Gets 0x00
 
 -- 10 for Lock and BlockPermalock, which work in Secured
-pub record Locks (A : Program) (y : Layout) (a : Air) (r : Aside) (q : Round) (h : ℕ) (c : Cover) : Type 0 where
+pub record Locks (A : Program) (y : Layout) (a : Air) (r : Aside) (q : Round) (h : ℕ) (c : Option ℕ) : Type 0 where
   -- Lock: a permalocked pair would lose its permalock or change its pwd bit
   pub lock_pair : (mask action k : ℕ) → Says a h (order.Lock mask action) → k < 5
       → let old = lock_word y a.image in let new = locked_to old mask action in
@@ -243,7 +241,7 @@ pub record Locks (A : Program) (y : Layout) (a : Air) (r : Aside) (q : Round) (h
 pub record NoImageRefused (A : Program) (m : List ℕ) : Type 0 where
   pub ask_off : asked A off_session m ask ≡ leaves 5 off_session [] []
   pub ask_held : (st : State) (r : Aside) → asked A (awake st true r) m ask ≡ leaves 6 (awake st true r) [] []
-  pub ask_linked : (secured : Bool) (q : Round) (h : ℕ) (c : Cover) (p : Half) (r : Aside)
+  pub ask_linked : (secured : Bool) (q : Round) (h : ℕ) (c : Option ℕ) (p : Option Half) (r : Aside)
       → asked A (awake (linked secured (link q h c p)) false r) m ask ≡ leaves 6 (awake (linked secured (link q h c p)) false r) [] []
   pub release_off : asked A off_session m release ≡ leaves 5 off_session [] []
   pub release_free : (st : State) (r : Aside) → asked A (awake st false r) m release ≡ leaves 6 (awake st false r) [] []
@@ -289,9 +287,9 @@ pub record Refusals (A : Program) : Type 0 where
   pub unheard : (y : Layout) (a : Air) (st : State) (r : Aside) → Idle y a.image → Unheard A a st r
   pub wrong : (y : Layout) (a : Air) (r : Aside) (q : Round) → Idle y a.image → OutOfPlace A a r q
   pub dropped : (y : Layout) (a : Air) (r : Aside) (q : Round) → Idle y a.image → Dropped A y a r q
-  pub errors : (y : Layout) (a : Air) (r : Aside) (q : Round) (secured : Bool) (h : ℕ) (c : Cover) → Idle y a.image → 6 ≤ length a.room
+  pub errors : (y : Layout) (a : Air) (r : Aside) (q : Round) (secured : Bool) (h : ℕ) (c : Option ℕ) → Idle y a.image → 6 ≤ length a.room
       → Errors A y a r q secured h c
-  pub locks : (y : Layout) (a : Air) (r : Aside) (q : Round) (h : ℕ) (c : Cover) → Idle y a.image → 6 ≤ length a.room → Locks A y a r q h c
+  pub locks : (y : Layout) (a : Air) (r : Aside) (q : Round) (h : ℕ) (c : Option ℕ) → Idle y a.image → 6 ≤ length a.room → Locks A y a r q h c
   pub at_power_up : (m : List ℕ) (s : Session) (n u : ℕ) → check_of m ≡ refused n → asked A s m (power_up u) ≡ leaves n off_session m []
   pub no_image : (m : List ℕ) → NoImageRefused A m
   pub reads : (m : List ℕ) (at n : ℕ) (room : List ℕ) → TransferRefused A m (read at n room) room

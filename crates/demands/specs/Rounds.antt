@@ -1,6 +1,6 @@
 -- Inventory on the worked image, computed (RULES 11): Query, QueryRep, QueryAdjust, ACK and Select in every state that hears them, at their
 -- edges, and two wrong answers of each that the promises rule out. Assumes nothing.
-use Rattle.std.specs.Prelude.{ℕ, ◌≡◌, refl, Bool, true, false, List, [], ◌∷◌, replicate}
+use Rattle.std.specs.Prelude.{ℕ, ◌≡◌, refl, Bool, true, false, List, [], ◌∷◌, replicate, None, Some}
 use Rattle.std.proofs.Common.{sym, ap, ◌∙◌, arith}
 use Rattle.bits.specs.Words.{word_at, with_word}
 use Rattle.bits.specs.Bits.{field_at, bits_of, words_bits, alike}
@@ -16,7 +16,6 @@ use Rattle.replies.specs.Pack.{filled, packed}
 use Rattle.replies.specs.Replies.{checked}
 use Rattle.stores.specs.Stores.{change_stores}
 use Rattle.states.specs.declared.Flags.{Flags}
-use Rattle.states.specs.declared.Cover.TheVariants as cover
 use Rattle.states.specs.declared.Half.TheVariants as half
 use Rattle.states.specs.declared.Link.{Link}
 use Rattle.states.specs.declared.State.{State}
@@ -153,10 +152,10 @@ abbrev acknowledged : Session
 acknowledged = awake_in new_flags (state.Acknowledged round 0xBEEF)
 
 abbrev covered : Link
-covered = record { round = round; handle = 0x1234; cover = cover.Number 0x5A5A; half = half.Nothing }
+covered = record { round = round; handle = 0x1234; cover = Some 0x5A5A; half = None }
 
 abbrev halfway : Link
-halfway = record { round = round; handle = 0x1234; cover = cover.Number 0x5A5A; half = half.Access 0 }
+halfway = record { round = round; handle = 0x1234; cover = Some 0x5A5A; half = Some (half.Access 0) }
 
 abbrev opened : Session
 opened = awake_in new_flags (state.Open (plain_link round 0x1234))

@@ -1,6 +1,6 @@
 -- What the terms of the demands come to where a definition stands behind them (RULES 1 to 4): each said once more from the rules, so that
 -- a definition which became another breaks a demand. Assumes nothing.
-use Rattle.std.specs.Prelude.{ℕ, suc, ◌+◌, ◌-◌, ◌*◌, ◌/◌, ◌%◌, ◌^◌, ◌≤◌, ◌<◌, ◌≡◌, ◌≢◌, Bool, true, false, cond, not, ◌&&◌, List, [], ◌∷◌, ◌++◌, eqb, get_or, length, set}
+use Rattle.std.specs.Prelude.{ℕ, suc, ◌+◌, ◌-◌, ◌*◌, ◌/◌, ◌%◌, ◌^◌, ◌≤◌, ◌<◌, ◌≡◌, ◌≢◌, Bool, true, false, cond, not, ◌&&◌, List, [], ◌∷◌, ◌++◌, eqb, get_or, length, set, None, Some}
 use Rattle.std.specs.Int.Bits.{bit_xor}
 use Rattle.bits.specs.Words.{Bytes, word_at, Store, store, after}
 use Rattle.bits.specs.Bits.{bit_at, bits_from, field_at, bits_of, words_bits}
@@ -18,7 +18,6 @@ use Rattle.frames.specs.declared.Round.{Round}
 use Rattle.frames.specs.Frames.{span}
 use Rattle.states.specs.Commands.{kill_word, access_word, plain_link, fallen}
 use Rattle.states.specs.Inventory.{flag_at, with_flag, flag_after}
-use Rattle.states.specs.declared.Cover.TheVariants as cover
 use Rattle.states.specs.declared.Half.TheVariants as half
 use Rattle.states.specs.declared.Flags.{Flags}
 use Rattle.states.specs.declared.Link.{Link}
@@ -27,7 +26,6 @@ use Rattle.states.specs.declared.State.TheVariants as state
 use Rattle.stores.specs.Cuts.{with_byte}
 use Rattle.stores.specs.Stores.{staged, change_stores, epc_crc, power_stores}
 use Rattle.tag.specs.declared.Register.{Register}
-use Rattle.tag.specs.declared.Power.TheVariants as power
 use Rattle.rights.specs.declared.Fault.TheVariants as fault
 use Rattle.tag.specs.declared.Outcome.{Outcome}
 use Rattle.tag.specs.Session.{off_session, on, new_flags, clear, number_of}
@@ -173,9 +171,9 @@ pub record Terms : Type 0 where
   pub register : (r : Register) → number_in r ≡ cond r.unwritten 2 0 + cond r.killed 1 0
   pub cleared : clear ≡ record { unwritten = false; killed = false }
   -- a session is Off, or it is under power with flags, a state, the port held or free, and a register
-  pub off : off_session ≡ record { power = power.Off }
+  pub off : off_session ≡ record { power = None }
   pub under : (f : Flags) (st : State) (held : Bool) (r : Register) → on f st held r
-      ≡ record { power = power.On (record { flags = f; state = st; held = held; register = r }) }
+      ≡ record { power = Some (record { flags = f; state = st; held = held; register = r }) }
   pub first_flags : new_flags ≡ record { s0 = false; s1 = false; s2 = false; s3 = false; sl = false }
   -- a tag that falls back is in Arbitrate, in the round that it was in; with slot 0 but where it was there
   pub fell : (q : Round) (n : ℕ) (k : Link) → (fallen (state.Arbitrate q n) ≡ state.Arbitrate q n) × (fallen (state.Reply q n) ≡ state.Arbitrate q 0)
@@ -184,7 +182,7 @@ pub record Terms : Type 0 where
       × (fallen (state.Secured k) ≡ state.Arbitrate k.round 0)
   -- bank, pointer and count; and a link with its round and number alone
   pub spanned : (b p c : ℕ) → span b p c ≡ record { bank = b; pointer = p; count = c }
-  pub plain : (q : Round) (h : ℕ) → plain_link q h ≡ record { round = q; handle = h; cover = cover.Nothing; half = half.Nothing }
+  pub plain : (q : Round) (h : ℕ) → plain_link q h ≡ record { round = q; handle = h; cover = None; half = None }
   -- what the code hands back is what is left, field by field
   pub outcome : (o : Outcome) (m room : List ℕ)
       → result_of o m room

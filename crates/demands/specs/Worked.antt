@@ -1,5 +1,5 @@
 -- Power-up and frames on the worked image, computed (RULES 6.3), and wrong answers that the promises rule out. Assumes nothing.
-use Rattle.std.specs.Prelude.{ℕ, ◌≡◌, refl, List, [], ◌∷◌, replicate}
+use Rattle.std.specs.Prelude.{ℕ, ◌≡◌, refl, List, [], ◌∷◌, replicate, Option, None, Some}
 use Rattle.std.proofs.Common.{sym, ap, ◌∙◌, arith}
 use Rattle.bits.specs.Words.{word_at, with_word}
 use Rattle.bits.specs.Bits.{field_at, bits_of, words_bits}
@@ -14,7 +14,6 @@ use Rattle.replies.specs.Replies.{checked}
 use Rattle.rights.specs.Rights.{read_code, write_code}
 use Rattle.stores.specs.Stores.{power_stores, change_stores}
 use Rattle.frames.specs.declared.Round.{Round}
-use Rattle.states.specs.declared.Cover.TheVariants as cover
 use Rattle.states.specs.declared.Half.{Half}
 use Rattle.states.specs.declared.Half.TheVariants as half
 use Rattle.states.specs.declared.State.TheVariants as state
@@ -79,11 +78,11 @@ abbrev pub round : Round
 round = record { session = 2; q = 4 }
 
 -- Secured, with the handle 1234h, the cover number 5A5Ah and a half that waits, or none
-abbrev pub waiting : Half → Session
-waiting h = new_session (state.Secured (record { round = round; handle = 0x1234; cover = cover.Number 0x5A5A; half = h }))
+abbrev pub waiting : Option Half → Session
+waiting h = new_session (state.Secured (record { round = round; handle = 0x1234; cover = Some 0x5A5A; half = h }))
 
 abbrev pub secured : Session
-secured = waiting half.Nothing
+secured = waiting None
 
 abbrev pub used_up : Session
 used_up = new_session (state.Secured (plain_link round 0x1234))

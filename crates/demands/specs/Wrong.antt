@@ -1,6 +1,6 @@
 -- Wrong answers that the promises of the small operations and of frames rule out, computed on the worked image (RULES 7.2). Assumes
 -- nothing.
-use Rattle.std.specs.Prelude.{ℕ, ◌≡◌, refl, true, false, List, [], ◌∷◌, replicate}
+use Rattle.std.specs.Prelude.{ℕ, ◌≡◌, refl, true, false, List, [], ◌∷◌, replicate, None, Some}
 use Rattle.std.proofs.Common.{sym, ap, ◌∙◌, arith}
 use Rattle.bits.specs.Words.{word_at, with_word}
 use Rattle.bits.specs.Bits.{field_at, bits_of, words_bits}
@@ -15,7 +15,6 @@ use Rattle.replies.specs.Pack.{filled, packed}
 use Rattle.replies.specs.Replies.{checked}
 use Rattle.rights.specs.Rights.{write_code}
 use Rattle.frames.specs.declared.Round.{Round}
-use Rattle.states.specs.declared.Cover.TheVariants as cover
 use Rattle.states.specs.declared.Half.TheVariants as half
 use Rattle.states.specs.declared.State.TheVariants as state
 use Rattle.tag.specs.declared.Session.{Session}
@@ -98,14 +97,14 @@ read_short e = let z : ◌≡◌ {A = ℕ} 4 0 = sym (ap (λ (r : Result). r.num
 
 -- Access's lower half, where an upper half waits that is not the password's
 abbrev mistyped : Result
-mistyped = first_of (frame_of change_stores (input (waiting (half.Access 0x1111)) worked access 56 0 (replicate 12 0xAA) 5))
+mistyped = first_of (frame_of change_stores (input (waiting (Some (half.Access 0x1111))) worked access 56 0 (replicate 12 0xAA) 5))
 
 -- Write ABCDh to USER 3 while an upper half of Access waits; and to a tag whose port is held
 abbrev between : Session → Result
 between s = first_of (frame_of change_stores (input s worked write3 66 0 (replicate 12 0xAA) 5))
 
 abbrev uncovered : Session
-uncovered = new_session (state.Secured (link round 0x1234 cover.Nothing (half.Access 0)))
+uncovered = new_session (state.Secured (link round 0x1234 None (Some (half.Access 0))))
 
 abbrev while_held : List ℕ → Result
 while_held m = first_of (frame_of change_stores (input (holding state.Ready false false) m write3 66 0 (replicate 12 0xAA) 5))
@@ -113,7 +112,7 @@ while_held m = first_of (frame_of change_stores (input (holding state.Ready fals
 pub record Frames : Type 0 where
   -- without a cover number it is 9, with one 14
   pub bare : (between uncovered).number ≡ 9
-  pub broken : (between (waiting (half.Access 0))).number ≡ 14
+  pub broken : (between (waiting (Some (half.Access 0)))).number ≡ 14
   -- a wrong password is 12
   pub wrong : mistyped.number ≡ 12
   -- with a word pending it is 5, else 6
@@ -129,7 +128,7 @@ unfolding frame_of layout_of header_good blocks_in content_good rules_hold worke
 frames = record { bare = refl; broken = refl; wrong = refl; pending = refl; held = refl; error = refl; whole = refl }
 
 -- 12 for broken halves, and 14 for a wrong password
-pub broken-as-wrong : (between (waiting (half.Access 0))).number ≡ 12 → ⊥
+pub broken-as-wrong : (between (waiting (Some (half.Access 0)))).number ≡ 12 → ⊥
 broken-as-wrong e = let z : ◌≡◌ {A = ℕ} 14 12 = sym frames.broken ∙ e in omega arith
 
 pub wrong-as-broken : mistyped.number ≡ 14 → ⊥

@@ -1,6 +1,6 @@
 -- Wrong answers that the promises of the lent forms rule out, two for each: a record that keeps the old session, and one that is changed
 -- where the call is refused or its power lost (RULES 7.2). Assumes nothing.
-use Rattle.std.specs.Prelude.{ℕ, ◌+◌, ◌*◌, ◌≡◌, refl, Bool, true, false, List, [], ◌∷◌, eqb, replicate}
+use Rattle.std.specs.Prelude.{ℕ, ◌+◌, ◌*◌, ◌≡◌, refl, Bool, true, false, List, [], ◌∷◌, eqb, replicate, Option, None, Some}
 use Rattle.std.proofs.Common.{sym, ap, ◌∙◌}
 use Rattle.std.proofs.lemmas.Bool.{eqb-false}
 use Rattle.bits.specs.Words.{word_at, with_word}
@@ -14,8 +14,7 @@ use Rattle.stores.specs.Stores.{power_stores, change_stores}
 use Rattle.states.specs.declared.State.{State}
 use Rattle.states.specs.declared.State.TheVariants as state
 use Rattle.states.specs.Commands.{no_round, state_number}
-use Rattle.tag.specs.declared.Power.{Power}
-use Rattle.tag.specs.declared.Power.TheVariants as power
+use Rattle.tag.specs.declared.Live.{Live}
 use Rattle.tag.specs.declared.Session.{Session}
 use Rattle.tag.specs.declared.Outcome.{Outcome}
 use Rattle.tag.specs.Session.{off_session, new_flags, new_session, on, clear}
@@ -27,9 +26,9 @@ use Rattle.lent.specs.Lent.{Lent, finds}
 use Rattle.tag.specs.Steps.{input}
 
 -- a number for each of the sessions below
-abbrev no : Power → ℕ
-no power.Off = 0
-no (power.On l) = state_number l.state + 10 * bit_of l.held + 100 * number_in l.register
+abbrev no : Option Live → ℕ
+no None = 0
+no (Some l) = state_number l.state + 10 * bit_of l.held + 100 * number_in l.register
 
 -- after such a call the record can't hold the session w
 abbrev pub Never : Result → Session → Type 0

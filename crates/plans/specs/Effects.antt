@@ -1,6 +1,6 @@
 -- What each command comes to that the session lets pass (RULES 3.9, 3.12 to 3.15, 3.20 to 3.22 and 11.3 to 11.6), one after the other.
 -- Assumes nothing.
-use Rattle.std.specs.Prelude.{Result, Ok, Err, ℕ, ◌+◌, ◌-◌, ◌*◌, cond, List, [], ◌∷◌, eqb}
+use Rattle.std.specs.Prelude.{Result, Ok, Err, ℕ, ◌+◌, ◌-◌, ◌*◌, cond, List, [], ◌∷◌, eqb, Option, None, Some}
 use Rattle.std.specs.Int.Bits.{bit_or}
 use Rattle.bits.specs.Words.{word_at, Store, store}
 use Rattle.bits.specs.Bits.{field_at}
@@ -69,7 +69,7 @@ abbrev pub shows : Scene → ℕ → ℕ → Effect
 shows c o n = does c (used c.state) (reply.Words o n (handle_in c)) []
 
 -- 3.15: a first half waits, answered with the handle
-abbrev pub waits : Scene → Half → Effect
+abbrev pub waits : Scene → Option Half → Effect
 waits c h = does c (with_link c.state (halved (link_of c.state) h)) (reply.Number (handle_in c)) []
 
 -- 3.20: words of a span written, where the word for EPC word 1, if it is among them, is pc
@@ -82,17 +82,17 @@ place_of y s = (bank_of y s.bank).at + s.pointer
 
 -- a half of Kill, by the half that waits: the first has code 00h where there is no kill password; the second stores killed as 1. That the
 -- second is right was asked before (`halves_of`), and where a half of the other password waits the answer was 14: the last line never counts
-abbrev pub half_kill : Scene → ℕ → Half → Effect
-half_kill c h half.Nothing =
-    unless (cond (zero_kill c.layout c.image) (Err fault.Other) (Ok tt)) (waits c (half.Kill (bare c h)))
-half_kill c h (half.Kill up) = does c state.Killed (reply.Success (handle_in c)) (store (c.layout.status.at + 1) 1 ∷ [])
-half_kill c h (half.Access up) = does c c.state (reply.Number (handle_in c)) []
+abbrev pub half_kill : Scene → ℕ → Option Half → Effect
+half_kill c h None =
+    unless (cond (zero_kill c.layout c.image) (Err fault.Other) Ok tt) (waits c (Some (half.Kill (bare c h))))
+half_kill c h (Some (half.Kill up)) = does c state.Killed (reply.Success (handle_in c)) (store (c.layout.status.at + 1) 1 ∷ [])
+half_kill c h (Some (half.Access up)) = does c c.state (reply.Number (handle_in c)) []
 
 -- a half of Access, likewise; right Access: Secured
-abbrev pub half_access : Scene → ℕ → Half → Effect
-half_access c h half.Nothing = waits c (half.Access (bare c h))
-half_access c h (half.Access up) = does c (state.Secured (halved (link_of c.state) half.Nothing)) (reply.Number (handle_in c)) []
-half_access c h (half.Kill up) = does c c.state (reply.Number (handle_in c)) []
+abbrev pub half_access : Scene → ℕ → Option Half → Effect
+half_access c h None = waits c (Some (half.Access (bare c h)))
+half_access c h (Some (half.Access up)) = does c (state.Secured (halved (link_of c.state) None)) (reply.Number (handle_in c)) []
+half_access c h (Some (half.Kill up)) = does c c.state (reply.Number (handle_in c)) []
 
 -- THE COMMANDS: what each comes to, unless its error code applies. A frame's words begin at its bit p; of a BlockWrite the word for EPC
 -- word 1 is the first, or from word 0 on the second

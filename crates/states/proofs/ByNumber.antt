@@ -1,4 +1,5 @@
 -- The rules over a session's numbers are the rules over its state. Assumes nothing.
+use Rattle.std.specs.Prelude.{Option, None, Some}
 use Prim.Native.Nat.{ℕ, zero, suc, ◌<◌}
 use mathlib.Core.Path.{◌≡◌, refl, sym, ap, ap₂, ◌∙◌}
 use mathlib.Core.Bool.{true≢false, Bool, true, false, cond, not, ◌&&◌, ◌||◌}
@@ -11,8 +12,6 @@ use Rattle.bits.proofs.Below.{and_left, and_right}
 use Rattle.image.specs.declared.Layout.{Layout}
 use Rattle.frames.specs.declared.Choice.{Choice}
 use Rattle.frames.specs.declared.Order.{Order}
-use Rattle.states.specs.declared.Cover.{Cover}
-use Rattle.states.specs.declared.Cover.TheVariants as cover
 use Rattle.states.specs.declared.Half.{Half}
 use Rattle.states.specs.declared.Half.TheVariants as half
 use Rattle.states.specs.declared.Flags.{Flags}
@@ -29,9 +28,9 @@ use Rattle.states.specs.Steps.{gate_of, picked}
 use Rattle.states.specs.Numbers.{covered_in, cover_in, flags_in, half_in, upper_in, numbers_with}
 use Rattle.states.specs.ByNumber.{hears_in, wrong_in, halves_in, gate_in, secured_in, used_in, halved_in, numbered_in, acknowledged_in, bit_for, is_set, flag_in, inverted_in, turned_by, selected_by, queried_in, meant, matches_in, idle_in, left_in, selected_in}
 
-covered-in : (c : Cover) → eqb (covered_in c) 0 ≡ not (is_covered c)
-covered-in cover.Nothing = refl
-covered-in (cover.Number n) = refl
+covered-in : (c : Option ℕ) → eqb (covered_in c) 0 ≡ not (is_covered c)
+covered-in None = refl
+covered-in (Some n) = refl
 
 module _ (h g : ℕ) (f : Flags) (st : State) where
   hears-in : (w : Who) (n : ℕ) → hears_in w (numbers_with h g f st) n ≡ hears w st n
@@ -46,24 +45,24 @@ module _ (h g : ℕ) (f : Flags) (st : State) where
   pub wrong-in : (n : ℕ) (a : Asks) → wrong_in (numbers_with h g f st) n a ≡ wrong_by st n a
   wrong-in n a = rw (hears-in a.who n, covered-in (link_of st).cover)
 
-pub bare-in : (c : Cover) (w : ℕ) → bit_xor w (cover_in c) ≡ uncovered c w
-bare-in cover.Nothing w = xor_zero_r w
-bare-in (cover.Number n) w = refl
+pub bare-in : (c : Option ℕ) (w : ℕ) → bit_xor w (cover_in c) ≡ uncovered c w
+bare-in None w = xor_zero_r w
+bare-in (Some n) w = refl
 
 module _ (y : Layout) (m : List ℕ) (h g : ℕ) (f : Flags) (st : State) where
   -- by the half that waits
-  halves-in : (a : Half) (p : Part) → (link_of st).half ≡ a → halves_in y m (numbers_with h g f st) p ≡ halves_row y m (link_of st) a p
-  halves-in half.Nothing p e = rw e
-  halves-in (half.Access up) part.Between e = rw e
-  halves-in (half.Access up) (part.Access w) e = rw (e, bare-in (link_of st).cover w)
-  halves-in (half.Access up) (part.Kill w) e = rw e
-  halves-in (half.Access up) (part.To n) e = rw e
-  halves-in (half.Access up) part.Other e = rw e
-  halves-in (half.Kill up) part.Between e = rw e
-  halves-in (half.Kill up) (part.Access w) e = rw e
-  halves-in (half.Kill up) (part.Kill w) e = rw (e, bare-in (link_of st).cover w)
-  halves-in (half.Kill up) (part.To n) e = rw e
-  halves-in (half.Kill up) part.Other e = rw e
+  halves-in : (a : Option Half) (p : Part) → (link_of st).half ≡ a → halves_in y m (numbers_with h g f st) p ≡ halves_row y m (link_of st) a p
+  halves-in None p e = rw e
+  halves-in (Some (half.Access up)) part.Between e = rw e
+  halves-in (Some (half.Access up)) (part.Access w) e = rw (e, bare-in (link_of st).cover w)
+  halves-in (Some (half.Access up)) (part.Kill w) e = rw e
+  halves-in (Some (half.Access up)) (part.To n) e = rw e
+  halves-in (Some (half.Access up)) part.Other e = rw e
+  halves-in (Some (half.Kill up)) part.Between e = rw e
+  halves-in (Some (half.Kill up)) (part.Access w) e = rw e
+  halves-in (Some (half.Kill up)) (part.Kill w) e = rw (e, bare-in (link_of st).cover w)
+  halves-in (Some (half.Kill up)) (part.To n) e = rw e
+  halves-in (Some (half.Kill up)) part.Other e = rw e
 
   pub gate-in : (n : ℕ) (o : Order) → gate_in y m (numbers_with h g f st) n o ≡ gate_of y m st n o
   gate-in n o = rw (wrong-in h g f st n (asks_of o), halves-in (link_of st).half (asks_of o).part refl)
@@ -88,7 +87,7 @@ module _ (h g : ℕ) (f : Flags) where
   acknowledged-in state.Killed = refl
 
   -- Open and Secured
-  pub halved-in : (st : State) (a : Half) → is_linked st ≡ true → halved_in (numbers_with h g f st) (half_in a) (upper_in a) ≡ numbers_with h g f (with_link st (halved (link_of st) a))
+  pub halved-in : (st : State) (a : Option Half) → is_linked st ≡ true → halved_in (numbers_with h g f st) (half_in a) (upper_in a) ≡ numbers_with h g f (with_link st (halved (link_of st) a))
   halved-in state.Ready a e = absurd (true≢false (sym e))
   halved-in (state.Arbitrate q slot) a e = absurd (true≢false (sym e))
   halved-in (state.Reply q n) a e = absurd (true≢false (sym e))
@@ -97,7 +96,7 @@ module _ (h g : ℕ) (f : Flags) where
   halved-in (state.Secured k) a e = refl
   halved-in state.Killed a e = absurd (true≢false (sym e))
 
-  pub secured-in : (st : State) → is_linked st ≡ true → secured_in (numbers_with h g f st) ≡ numbers_with h g f (state.Secured (halved (link_of st) half.Nothing))
+  pub secured-in : (st : State) → is_linked st ≡ true → secured_in (numbers_with h g f st) ≡ numbers_with h g f (state.Secured (halved (link_of st) None))
   secured-in state.Ready e = absurd (true≢false (sym e))
   secured-in (state.Arbitrate q slot) e = absurd (true≢false (sym e))
   secured-in (state.Reply q n) e = absurd (true≢false (sym e))

@@ -1,9 +1,7 @@
 -- A session's record of two numbers (RULES 10.1): what its parts say. Assumes nothing.
-use Rattle.std.specs.Prelude.{ℕ, ◌+◌, ◌/◌, ◌%◌, ◌^◌, cond}
+use Rattle.std.specs.Prelude.{ℕ, Option, None, Some, ◌+◌, ◌/◌, ◌%◌, ◌^◌, cond}
 use Rattle.states.specs.declared.Record.{Record}
 use Rattle.states.specs.declared.Numbers.{Numbers}
-use Rattle.states.specs.declared.Cover.{Cover}
-use Rattle.states.specs.declared.Cover.TheVariants as cover
 use Rattle.states.specs.declared.Half.{Half}
 use Rattle.states.specs.declared.Half.TheVariants as half
 use Rattle.states.specs.declared.Flags.{Flags}
@@ -29,23 +27,23 @@ numbers_in r =
     }
 
 -- a cover number: whether it is there, and its value; a half: none, of an Access or a Kill, and its value
-abbrev pub covered_in : Cover → ℕ
-covered_in cover.Nothing = 0
-covered_in (cover.Number n) = 1
+abbrev pub covered_in : Option ℕ → ℕ
+covered_in None = 0
+covered_in (Some n) = 1
 
-abbrev pub cover_in : Cover → ℕ
-cover_in cover.Nothing = 0
-cover_in (cover.Number n) = n
+abbrev pub cover_in : Option ℕ → ℕ
+cover_in None = 0
+cover_in (Some n) = n
 
-abbrev pub half_in : Half → ℕ
-half_in half.Nothing = 0
-half_in (half.Access u) = 1
-half_in (half.Kill u) = 2
+abbrev pub half_in : Option Half → ℕ
+half_in None = 0
+half_in (Some (half.Access u)) = 1
+half_in (Some (half.Kill u)) = 2
 
-abbrev pub upper_in : Half → ℕ
-upper_in half.Nothing = 0
-upper_in (half.Access u) = u
-upper_in (half.Kill u) = u
+abbrev pub upper_in : Option Half → ℕ
+upper_in None = 0
+upper_in (Some (half.Access u)) = u
+upper_in (Some (half.Kill u)) = u
 
 -- the flags: a bit for each that is B, and for SL
 abbrev pub flags_in : Flags → ℕ

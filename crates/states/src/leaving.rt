@@ -1,51 +1,26 @@
 // What commands leave of a session's numbers (RULES 3.12 to 3.15 and 11.2 to 11.6).
 ghost use Rattle.std.specs.Prelude.{◌≡◌};
-ghost use Rattle.states.specs.ByNumber.{bare_to, linked_to, used_in, halved_in, fallen_in, numbered_in, secured_in, killed_in, acknowledged_in, idle_in, left_in, bit_for, flag_in, inverted_in, queried_in, meant as meant_of, matches_in, slot_out, selected_by, selected_in};
+ghost use Rattle.states.specs.ByNumber.{bare_to, used_in, halved_in, fallen_in, numbered_in, secured_in, killed_in, acknowledged_in, idle_in, left_in, bit_for, flag_in, inverted_in, queried_in, meant as meant_of, matches_in, slot_out, selected_by, selected_in};
 
-use crate::inventory::{flag_after, pick};
+use crate::inventory::flag_after;
 use crate::stopping::past;
 use crate::{Numbers, access_word};
-use bits::both;
 use frames::Choice;
 use image::Layout;
 
-// A state without a cover, in a round; port and register stay.
-pub fn bare(v: Numbers, state: u8, flags: u8, round: u8, q: u8, number: u16, slot: u16) -> Numbers
-    ensures { result ≡ bare_to v state flags round q number slot }
+// A state without a number, a cover or a slot; round, flags, port and register stay.
+pub fn bare(v: Numbers, state: u8) -> Numbers
+    ensures { result ≡ bare_to v state v.flags v.round v.q 0 0 }
 {
     Numbers {
-        state: state,
-        held: v.held,
-        reg: v.reg,
+        state,
         covered: 0,
         half: 0,
-        round: round,
-        q: q,
-        flags: flags,
-        number: number,
+        number: 0,
         cover: 0,
         upper: 0,
-        slot: slot,
-    }
-}
-
-// Open or Secured, with another cover and half.
-fn linked(v: Numbers, state: u8, covered: u8, cover: u16, half: u8, upper: u16) -> Numbers
-    ensures { result ≡ linked_to v state covered cover half upper }
-{
-    Numbers {
-        state: state,
-        held: v.held,
-        reg: v.reg,
-        covered: covered,
-        half: half,
-        round: v.round,
-        q: v.q,
-        flags: v.flags,
-        number: v.number,
-        cover: cover,
-        upper: upper,
-        slot: v.slot,
+        slot: 0,
+        ..v
     }
 }
 
@@ -53,21 +28,32 @@ fn linked(v: Numbers, state: u8, covered: u8, cover: u16, half: u8, upper: u16) 
 pub fn used(v: Numbers) -> Numbers
     ensures { result ≡ used_in v }
 {
-    linked(v, v.state, 0, 0, v.half, v.upper)
+    Numbers {
+        covered: 0,
+        cover: 0,
+        ..v
+    }
 }
 
 // The cover number used up, and a half waiting.
 pub fn halved(v: Numbers, half: u8, upper: u16) -> Numbers
     ensures { result ≡ halved_in v half upper }
 {
-    linked(v, v.state, 0, 0, half, upper)
+    Numbers {
+        half,
+        upper,
+        ..used(v)
+    }
 }
 
 // Back to Arbitrate, with the round and the slot that the state has.
 pub fn fallen(v: Numbers) -> Numbers
     ensures { result ≡ fallen_in v }
 {
-    bare(v, 2, v.flags, v.round, v.q, 0, v.slot)
+    Numbers {
+        slot: v.slot,
+        ..bare(v, 2)
+    }
 }
 
 // Req_RN makes the fresh word the handle, or the cover number.
@@ -75,25 +61,37 @@ pub fn numbered(image: &[u8], y: Layout, fresh: u16, v: Numbers) -> Numbers
     ensures { result ≡ numbered_in y image.now fresh v }
 {
     if v.state != 4 {
-        return linked(v, v.state, 1, fresh, v.half, v.upper);
+        return Numbers {
+            covered: 1,
+            cover: fresh,
+            ..v
+        };
     }
-    if both(access_word(image, y, 0) == 0, access_word(image, y, 1) == 0) {
-        return bare(v, 6, v.flags, v.round, v.q, fresh, 0);
+    let zero = access_word(image, y, 0) == 0 && access_word(image, y, 1) == 0;
+    Numbers {
+        number: fresh,
+        ..bare(v, if zero { 6 } else { 5 })
     }
-    bare(v, 5, v.flags, v.round, v.q, fresh, 0)
 }
 
 // Secured, by a right Access.
 pub fn secured(v: Numbers) -> Numbers
     ensures { result ≡ secured_in v }
 {
-    linked(v, 6, 0, 0, 0, 0)
+    Numbers {
+        state: 6,
+        ..halved(v, 0, 0)
+    }
 }
 
 pub fn killed(v: Numbers) -> Numbers
     ensures { result ≡ killed_in v }
 {
-    bare(v, 7, v.flags, 0, 0, 0, 0)
+    Numbers {
+        round: 0,
+        q: 0,
+        ..bare(v, 7)
+    }
 }
 
 // The state after an ACK with the right number.
@@ -101,7 +99,10 @@ pub fn acknowledged(v: Numbers) -> Numbers
     ensures { result ≡ acknowledged_in v }
 {
     if v.state == 3 {
-        return bare(v, 4, v.flags, v.round, v.q, v.number, 0);
+        return Numbers {
+            number: v.number,
+            ..bare(v, 4)
+        };
     }
     used(v)
 }
@@ -110,21 +111,19 @@ pub fn acknowledged(v: Numbers) -> Numbers
 pub fn idle(v: Numbers, flags: u8) -> Numbers
     ensures { result ≡ idle_in v flags }
 {
-    bare(v, 1, flags, 0, 0, 0, 0)
+    Numbers {
+        flags,
+        round: 0,
+        q: 0,
+        ..bare(v, 1)
+    }
 }
 
 // The bit of flag t, 0 to 4, among the flags.
 fn bit_of(t: u8) -> u8
     ensures { result ≡ bit_for t }
 {
-    match t {
-        0 => 1,
-        1 => 2,
-        2 => 4,
-        3 => 8,
-        4 => 16,
-        _ => 0,
-    }
+    if t < 5 { 1 << t } else { 0 }
 }
 
 // The flag of session t, 0 to 3, or SL.
@@ -154,34 +153,35 @@ pub fn left(v: Numbers) -> Numbers
 pub fn queried_flags(v: Numbers, session: u8) -> u8
     ensures { result ≡ queried_in v session }
 {
-    let other = inverted(v.flags, session);
-    if both(past(v, 3), v.round == session) {
-        return other;
+    if past(v, 3) && v.round == session {
+        inverted(v.flags, session)
+    } else {
+        v.flags
     }
-    v.flags
 }
 
 // A Query's Sel means the tag.
 fn meant(sel: u8, sl: bool) -> bool
     ensures { result ≡ meant_of sel sl }
 {
-    if sel < 2 {
-        return true;
+    match sel {
+        0 | 1 => true,
+        2 => !sl,
+        3 => sl,
+        _ => false,
     }
-    if sel == 2 {
-        return !sl;
-    }
-    both(sel == 3, sl)
 }
 
 // The tag matches a Query.
 pub fn matches(f: u8, sel: u8, target: u8, session: u8) -> bool
     ensures { result ≡ matches_in f sel target session }
 {
-    if !meant(sel, f & 16 != 0) {
-        return false;
-    }
-    pick(flag_at(f, session), target == 1, target == 0)
+    meant(sel, f & 16 != 0)
+        && if flag_at(f, session) {
+            target == 1
+        } else {
+            target == 0
+        }
 }
 
 // A slot from the low Q bits of the fresh word; a Q above 15 takes all of them.
@@ -201,10 +201,7 @@ fn selected_flags(f: u8, target: u8, action: u8, matching: bool) -> u8
     let bit = bit_of(target);
     let old = f & bit != 0;
     let new = flag_after(target, action, matching, old);
-    if pick(old, new, !new) {
-        return f;
-    }
-    f ^ bit
+    if old == new { f } else { f ^ bit }
 }
 
 // What a Select leaves.

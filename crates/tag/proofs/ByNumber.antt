@@ -1,4 +1,5 @@
 -- What the code makes of a session's numbers is what the table makes of the session. Assumes nothing.
+use Rattle.std.specs.Prelude.{Option, None, Some}
 use Prim.Native.Nat.{ℕ, ◌+◌, ◌-◌, ◌*◌}
 use mathlib.Core.Path.{◌≡◌, refl, sym, ap, ◌∙◌}
 use mathlib.Core.Bool.{Bool, true, false, cond, not, ◌&&◌, ◌||◌}
@@ -227,10 +228,10 @@ module _ (l : Live) (y : Layout) (m f : List ℕ) (fresh : ℕ) (room : List ℕ
           ap (λ (v : Numbers). done_at v 0 0 m room) (selected-in (bit_of l.held) (number_in l.register) l.flags l.state c match)
           ∙ silent l m room y.work.at s (turned_to l (selected_flags l.flags c match) state.Ready)
 
-  halves-to : (n : ℕ) (k : Link) (a : Half) → halves_row y m k a (part.To n) ≡ cond (not (eqb (half_in a) 0) && eqb k.handle n) 14 0
-  halves-to n k half.Nothing = refl
-  halves-to n k (half.Access up) = refl
-  halves-to n k (half.Kill up) = refl
+  halves-to : (n : ℕ) (k : Link) (a : Option Half) → halves_row y m k a (part.To n) ≡ cond (not (eqb (half_in a) 0) && eqb k.handle n) 14 0
+  halves-to n k None = refl
+  halves-to n k (Some (half.Access up)) = refl
+  halves-to n k (Some (half.Kill up)) = refl
 
   ack-by : (n : ℕ) → ack_at y (numbers_on l) n m room ≡ in_numbers (command_of l y m f fresh room s (to_all (order.Ack n)))
   unfolding ack_at
@@ -312,7 +313,7 @@ module _ (l : Live) (y : Layout) (m f : List ℕ) (fresh : ℕ) (room : List ℕ
   abbrev ends : Effect → Left Numbers
   ends x = in_numbers (end_by x.code l y.work.at m room s x)
 
-  half-by : (a : Half) → is_linked l.state ≡ true
+  half-by : (a : Option Half) → is_linked l.state ≡ true
       → tell_at (numbers_on l) m room (reply.Number handle) (halved_in (numbers_on l) (half_in a) (upper_in a))
       ≡ in_numbers (done_end l y.work.at m room s (reply.Number handle) (moved_to l (with_link l.state (halved (link_of l.state) a))) [])
   half-by a e =
@@ -320,30 +321,30 @@ module _ (l : Live) (y : Layout) (m f : List ℕ) (fresh : ℕ) (room : List ℕ
       ∙ told l m room y.work.at s (reply.Number handle) (moved_to l (with_link l.state (halved (link_of l.state) a)))
 
   -- a half of Kill and of Access, by the half that waits
-  kill-by : (h : ℕ) (a : Half) → is_linked l.state ≡ true → halves_row y m (link_of l.state) a (part.Kill h) ≡ 0
+  kill-by : (h : ℕ) (a : Option Half) → is_linked l.state ≡ true → halves_row y m (link_of l.state) a (part.Kill h) ≡ 0
       → performs (cond (eqb (half_in a) 0) (cond (zero_kill y m) (plan.Error fault.Other) (plan.Half 2 (bare_of (numbers_on l) h))) (plan.Kill 1 (y.status.at + 1)))
       ≡ ends (half_kill (scene_of l y m f fresh) h a)
-  kill-by h half.Nothing e b = go (zero_kill y m)
+  kill-by h None e b = go (zero_kill y m)
     where
       go : (z : Bool) → performs (cond z (plan.Error fault.Other) (plan.Half 2 (bare_of (numbers_on l) h)))
-          ≡ in_numbers (end_by (cond z (code.Error fault.Other) code.Nothing) l y.work.at m room s (half_kill (scene_of l y m f fresh) h half.Nothing))
+          ≡ in_numbers (end_by (cond z (code.Error fault.Other) code.Nothing) l y.work.at m room s (half_kill (scene_of l y m f fresh) h None))
       go true = error-by (fault_number fault.Other)
       go false =
           ap (λ (u : ℕ). tell_at (numbers_on l) m room (reply.Number handle) (halved_in (numbers_on l) 2 u)) (bare-in (link_of l.state).cover h)
-          ∙ half-by (half.Kill (uncovered (link_of l.state).cover h)) e
-  kill-by h (half.Access up) e b = absurd (omega (arith, b))
-  kill-by h (half.Kill up) e b =
+          ∙ half-by (Some (half.Kill (uncovered (link_of l.state).cover h))) e
+  kill-by h (Some (half.Access up)) e b = absurd (omega (arith, b))
+  kill-by h (Some (half.Kill up)) e b =
       sym (ends-in m room (on_session l) (moved_to l state.Killed) y.work.at s (reply.Success handle) (store (y.status.at + 1) 1 ∷ []))
 
-  access-by : (h : ℕ) (a : Half) → is_linked l.state ≡ true → halves_row y m (link_of l.state) a (part.Access h) ≡ 0
+  access-by : (h : ℕ) (a : Option Half) → is_linked l.state ≡ true → halves_row y m (link_of l.state) a (part.Access h) ≡ 0
       → performs (cond (eqb (half_in a) 0) (plan.Half 1 (bare_of (numbers_on l) h)) plan.Secure) ≡ ends (half_access (scene_of l y m f fresh) h a)
-  access-by h half.Nothing e b =
+  access-by h None e b =
       ap (λ (u : ℕ). tell_at (numbers_on l) m room (reply.Number handle) (halved_in (numbers_on l) 1 u)) (bare-in (link_of l.state).cover h)
-      ∙ half-by (half.Access (uncovered (link_of l.state).cover h)) e
-  access-by h (half.Access up) e b =
+      ∙ half-by (Some (half.Access (uncovered (link_of l.state).cover h))) e
+  access-by h (Some (half.Access up)) e b =
       ap (tell_at (numbers_on l) m room (reply.Number handle)) (secured-in (bit_of l.held) (number_in l.register) l.flags l.state e)
-      ∙ told l m room y.work.at s (reply.Number handle) (moved_to l (state.Secured (halved (link_of l.state) half.Nothing)))
-  access-by h (half.Kill up) e b = absurd (omega (arith, b))
+      ∙ told l m room y.work.at s (reply.Number handle) (moved_to l (state.Secured (halved (link_of l.state) None)))
+  access-by h (Some (half.Kill up)) e b = absurd (omega (arith, b))
 
   order-by : (o : Order) → ToOne o → wrong_by l.state handle (asks_of o) ≡ false → halves_of y m l.state o ≡ 0
       → performs (plan_of y m f (numbers_on l) o) ≡ in_numbers (order_of l y m f fresh room s o)

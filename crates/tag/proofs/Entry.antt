@@ -1,5 +1,6 @@
 -- A frame to the session of a record: stopped by the front, or heard; and the same as an outcome. Assumes nothing.
-use Prim.Native.Nat.{ℕ, ◌≤◌}
+use Rattle.std.specs.Prelude.{Some}
+use Prim.Native.Nat.{ℕ}
 use mathlib.Core.Path.{◌≡◌, refl, sym, ap, ◌∙◌, subst}
 use mathlib.Core.Bool.{true≢false, Bool, true, false, cond}
 use mathlib.Core.List.{List}
@@ -21,7 +22,6 @@ use Rattle.states.specs.declared.Numbers.{Numbers}
 use Rattle.states.specs.declared.Record.{Record}
 use Rattle.states.specs.Numbers.{numbers_in}
 use Rattle.tag.specs.declared.Live.{Live}
-use Rattle.tag.specs.declared.Power.TheVariants as power
 use Rattle.tag.specs.declared.Session.{Session}
 use Rattle.tag.specs.Result.{Left, Result, leaves, first_of}
 use Rattle.tag.specs.Port.{bit_of}
@@ -31,7 +31,7 @@ use Rattle.tag.specs.RecordSteps.{fits_of}
 use Rattle.tag.specs.Steps.{input, stays, on_session, radio_row, front_by, front_row, heard_by}
 use Rattle.tag.specs.ByNumber.{live_at, Fit, heard_at, calling_at, command_at}
 use Rattle.tag.proofs.Fronts.{Passed, passed-good}
-use Rattle.tag.proofs.Tables.{frame-live, frame-stops, frame-few, frame-passes}
+use Rattle.tag.proofs.Tables.{frame-live, frame-stops, frame-passes}
 use Rattle.tag.proofs.Records.{again, fit-live, unfit-off}
 use Rattle.tag.proofs.ByNumber.{calling-by, command-by}
 
@@ -85,9 +85,6 @@ module _ (r : Record) (m f : List ℕ) (n fresh : ℕ) (room : List ℕ) (s : �
     unfolding front_row
     five-row = is
 
-    pub off-few : row ≤ 13
-    off-few = frame-few (session_of (numbers_in r)) m f n fresh room s off-row five-row
-
     pub off-stops : stays row blank m room ≡ in_numbers (first_of (frame_of change_stores (input (session_of (numbers_in r)) m f n fresh room s)))
     off-stops =
         ap (λ (v : Session). stays row (numbers_of v.power) m room) (sym (unfit-off r e))
@@ -109,7 +106,7 @@ module _ (r : Record) (m f : List ℕ) (n fresh : ℕ) (room : List ℕ) (s : �
         ap (λ (v : Numbers). stays k v m room) (sym fit)
         ∙ ap (λ (v : Session). in_numbers (leaves k v m room)) (sym on)
 
-    own : radio_row (session_of (numbers_in r)).power ≡ radio_row (power.On live)
+    own : radio_row (session_of (numbers_in r)).power ≡ radio_row (Some live)
     own = ap (λ (v : Session). radio_row v.power) on
 
     module _ (z : row ≡ 0 → ⊥) where
@@ -117,14 +114,11 @@ module _ (r : Record) (m f : List ℕ) (n fresh : ℕ) (room : List ℕ) (s : �
       unfolding front_row
       image-row = is ∙ image-first (radio_row (session_of (numbers_in r)).power) (ready_row m) (λ q. z (is ∙ q))
 
-      pub image-few : row ≤ 13
-      image-few = frame-few (session_of (numbers_in r)) m f n fresh room s refl image-row
-
       pub image-stops : stays row (numbers_in r) m room ≡ in_numbers (first_of (frame_of change_stores (input (session_of (numbers_in r)) m f n fresh room s)))
       image-stops = written row ∙ ap in_numbers (frame-stops (session_of (numbers_in r)) m f n fresh room s refl image-row z)
 
     module _ (z : row ≡ 0) where
-      own_row : radio_row (power.On live) ≡ front_row (radio_row (session_of (numbers_in r)).power) m
+      own_row : radio_row (Some live) ≡ front_row (radio_row (session_of (numbers_in r)).power) m
       unfolding front_row
       own_row = sym own ∙ then-own (radio_row (session_of (numbers_in r)).power) (ready_row m) (sym is ∙ z)
 
@@ -156,7 +150,7 @@ module _ (r : Record) (m f : List ℕ) (n fresh : ℕ) (room : List ℕ) (s : �
         none : 0 ≡ front_row (radio_row (session_of (numbers_in r)).power) m
         none = ap (λ (b : Bool). cond b 6 0) (sym free) ∙ own_row
 
-        passed : Passed (power.On live) m live.held
+        passed : Passed (Some live) m live.held
         passed =
             subst (λ (v : Session). Passed v.power m (live_of v.power).held) on
             (frame-passes (session_of (numbers_in r)) m f n fresh room s refl none refl)

@@ -1,35 +1,38 @@
 -- The rows 1, 2, 3, 5 and 6, which stand first in every table of a call with an image: the number that the code finds is the first that holds. Assumes nothing.
-use Prim.Native.Nat.{ℕ, ◌≤◌, ◌<◌}
-use mathlib.Core.Path.{◌≡◌, refl, sym, ap, ◌∙◌}
+use Rattle.std.specs.Prelude.{Err, Option, None, Some}
+use Prim.Native.Nat.{ℕ}
+use mathlib.Core.Path.{◌≡◌, refl, sym, ap, ◌∙◌, subst}
 use mathlib.Core.Bool.{true≢false, Bool, true, false, cond, not, ◌||◌}
-use mathlib.Core.List.{List}
+use mathlib.Core.List.{List, ◌++◌}
 use native.Mathlib.Omega.{arith}
 use lib.Dec.{eqb}
+use borrow.Author.Tests.{eqb-true, eqb-false}
 use Rattle.bits.specs.First.{first}
 use Rattle.image.specs.Layout.{layout_of}
 use Rattle.image.specs.Content.{count_in}
-use Rattle.image.specs.Check.{refused, good, row_of, check_of}
+use Rattle.image.specs.Check.{refused, good, row_of, check_of, image_rows}
 use Rattle.image.specs.Rules.{Good}
 use Rattle.image.specs.Steps.{ready_row, short, header_wrong, content_broken}
-use Rattle.image.proofs.Answers.{row-0}
-use Rattle.tag.specs.declared.Power.{Power}
-use Rattle.tag.specs.declared.Power.TheVariants as power
+use Rattle.image.proofs.Answers.{row-0, ready-left, ready-none, ready-some, ready-zero, row-pending}
+use Rattle.tag.specs.declared.Live.{Live}
+use Rattle.tag.specs.declared.Answer.{Answer}
 use Rattle.tag.specs.declared.Session.{Session}
+use Rattle.tag.specs.Session.{row_in, Stops}
 use Rattle.tag.specs.Result.{Result}
 use Rattle.tag.specs.Table.{is_off, live_of, first_rows}
 use Rattle.tag.specs.Steps.{radio_row, held_row, front_row}
 
 -- a session's own answer: 5, 6 where the port forbids the call, or 0
-abbrev pub own_row : Power → Bool → ℕ
+abbrev pub own_row : Option Live → Bool → ℕ
 own_row p port = cond (is_off p) 5 (cond port 6 0)
 
-pub radio-own : (p : Power) → radio_row p ≡ own_row p (live_of p).held
-radio-own power.Off = refl
-radio-own (power.On l) = refl
+pub radio-own : (p : Option Live) → radio_row p ≡ own_row p (live_of p).held
+radio-own None = refl
+radio-own (Some l) = refl
 
-pub held-own : (p : Power) → held_row p ≡ own_row p (not (live_of p).held)
-held-own power.Off = refl
-held-own (power.On l) = go l.held
+pub held-own : (p : Option Live) → held_row p ≡ own_row p (not (live_of p).held)
+held-own None = refl
+held-own (Some l) = go l.held
   where
     go : (b : Bool) → ◌≡◌ {A = ℕ} (cond b 0 6) (cond (not b) 6 0)
     go true = refl
@@ -39,7 +42,7 @@ held-own (power.On l) = go l.held
 abbrev number_by : Bool → Bool → Bool → Bool → Bool → ℕ
 number_by a b c d e = cond a 1 (cond b 2 (cond c 3 (cond d 5 (cond e 6 0))))
 
-module _ (p : Power) (m : List ℕ) (port : Bool) where
+module _ (p : Option Live) (m : List ℕ) (port : Bool) where
   number_is : front_row (own_row p port) m ≡ number_by (short m) (header_wrong m) (content_broken m) (is_off p || not (eqb (count_in (layout_of m) m) 0)) port
   unfolding front_row ready_row check_of
   number_is = go (short m) (header_wrong m) (content_broken m) (eqb (count_in (layout_of m) m) 0) (is_off p) port
@@ -58,7 +61,7 @@ module _ (p : Power) (m : List ℕ) (port : Bool) where
       go false false false false false e = refl
 
 -- none of them holds
-pub record Passed (p : Power) (m : List ℕ) (port : Bool) : Type 0 where
+pub record Passed (p : Option Live) (m : List ℕ) (port : Bool) : Type 0 where
   pub long : short m ≡ false
   pub header : header_wrong m ≡ false
   pub content : content_broken m ≡ false
@@ -73,20 +76,9 @@ none false false false true e h = absurd (omega arith)
 none false false false false true h = absurd (omega arith)
 none false false false false false h = (refl, refl, refl, refl, refl)
 
-few : (a b c d e : Bool) → number_by a b c d e ≤ 6
-few true b c d e = omega arith
-few false true c d e = omega arith
-few false false true d e = omega arith
-few false false false true e = omega arith
-few false false false false true = omega arith
-few false false false false false = omega arith
-
 module _ (v : Session) (m : List ℕ) (port : Bool) {h row : ℕ} (own : h ≡ own_row v.power port) (is : row ≡ front_row h m) where
   by_tests : row ≡ number_by (short m) (header_wrong m) (content_broken m) (is_off v.power || not (eqb (count_in (layout_of m) m) 0)) port
   by_tests = is ∙ ap (λ (k : ℕ). front_row k m) own ∙ number_is v.power m port
-
-  pub front-few : row ≤ 13
-  front-few = omega (arith, by_tests, few (short m) (header_wrong m) (content_broken m) (is_off v.power || not (eqb (count_in (layout_of m) m) 0)) port)
 
   pub front-passes : row ≡ 0 → Passed v.power m port
   front-passes z =
@@ -114,20 +106,43 @@ pub front-over : (v : Session) (m : List ℕ) (port : Bool) → Passed v.power m
 front-over v m port p everything x = rw (p.long, p.header, p.content, p.ready, p.allowed)
 
 -- an image that passes is good, and the session is under power
-pub passed-good : {p : Power} {m : List ℕ} {port : Bool} → Passed p m port → Good (layout_of m) m
+pub passed-good : {p : Option Live} {m : List ℕ} {port : Bool} → Passed p m port → Good (layout_of m) m
 unfolding check_of
 passed-good {p} {m} {port} h = row-0 m (rw (h.long, h.header, h.content))
 
-pub passed_on : {m : List ℕ} {port : Bool} → Passed power.Off m port → ⊥
+pub passed_on : {m : List ℕ} {port : Bool} → Passed None m port → ⊥
 passed_on h = true≢false h.ready
 
--- a number up to 13 that is none of 0 to 12
-other : (k n : ℕ) → k ≤ n → (n ≡ k → ⊥) → k < n
-other k n h z = omega (arith, z)
+-- an image whose number is none of 0 to 3 has pending words
+pub ready-five : (m : List ℕ) {n : ℕ} → n ≡ ready_row m → (n ≡ 0 → ⊥) → (n ≡ 1 → ⊥) → (n ≡ 2 → ⊥) → (n ≡ 3 → ⊥) → 5 ≡ ready_row m
+ready-five m {n} e o a b c = go (eqb (count_in (layout_of m) m) 0) refl
+  where
+    z : row_of (check_of m) ≡ 0
+    z = ready-left m e a b c
 
-pub last-answer : (n : ℕ) → n ≤ 13 → (n ≡ 0 → ⊥) → (n ≡ 1 → ⊥) → (n ≡ 2 → ⊥) → (n ≡ 3 → ⊥) → (n ≡ 4 → ⊥) → (n ≡ 5 → ⊥) → (n ≡ 6 → ⊥)
-    → (n ≡ 7 → ⊥) → (n ≡ 8 → ⊥) → (n ≡ 9 → ⊥) → (n ≡ 10 → ⊥) → (n ≡ 11 → ⊥) → (n ≡ 12 → ⊥) → 13 ≡ n
-last-answer n most a b c d e f g h i j k l m =
-    let six : 7 ≤ n = other 6 n (other 5 n (other 4 n (other 3 n (other 2 n (other 1 n (other 0 n (omega arith) a) b) c) d) e) f) g in
-    let least : 13 ≤ n = other 12 n (other 11 n (other 10 n (other 9 n (other 8 n (other 7 n six h) i) j) k) l) m in
-    omega (arith, most, least)
+    go : (t : Bool) → eqb (count_in (layout_of m) m) 0 ≡ t → 5 ≡ ready_row m
+    go true q = absurd (o (e ∙ ready-none m (eqb-true _ 0 q) z))
+    go false q = sym (ready-some m (eqb-false _ 0 q) z)
+
+-- what the check refuses is the first of its rows
+pub image-stops : (m : List ℕ) {n : ℕ} → row_of (check_of m) ≡ n → (n ≡ 0 → ⊥) → (everything : ℕ → Result) (rest : List (Result × Bool)) (x : Result)
+    → everything n ≡ first (image_rows everything m ++ rest) x
+unfolding check_of
+image-stops m e z everything rest x = ap everything (sym e) ∙ go (short m) (header_wrong m) (content_broken m) (λ q. z (sym e ∙ q))
+  where
+    go : (a b c : Bool) → (row_of (cond a (refused 1) (cond b (refused 2) (cond c (refused 3) (good (layout_of m))))) ≡ 0 → ⊥)
+        → everything (row_of (cond a (refused 1) (cond b (refused 2) (cond c (refused 3) (good (layout_of m))))))
+        ≡ cond a (everything 1) (cond b (everything 2) (cond c (everything 3) (first rest x)))
+    go true b c n = refl
+    go false true c n = refl
+    go false false true n = refl
+    go false false false n = absurd (n refl)
+
+-- an image that the check lets pass, words pending or not
+pub passed-check : (m : List ℕ) (b : Bool) → cond b 5 0 ≡ ready_row m → row_of (check_of m) ≡ 0
+passed-check m true e = row-pending m (sym e)
+passed-check m false e = (ready-zero m (sym e)).0
+
+-- an answer that stops is none of 0
+pub err-stops : {r : _} {a : Answer} → ◌≡◌ {A = _} r (Err a) → Stops r → row_in r ≡ 0 → ⊥
+err-stops e s z = subst Stops e s (sym (ap row_in e) ∙ z)

@@ -1,4 +1,5 @@
 -- The port's table is what the code does, and its mask chooses the words that may be written. Assumes nothing.
+use Rattle.std.specs.Prelude.{Option, None, Some}
 use Prim.Native.Nat.{ℕ, zero, suc, ◌+◌, ◌-◌, ◌*◌, ◌/◌, ◌%◌, ◌≤◌, ◌<◌}
 use mathlib.Core.Path.{◌≡◌, refl, sym, ap, ap₂, ◌∙◌, subst}
 use mathlib.Core.Bool.{true≢false, Bool, true, false, cond, not, ◌&&◌, ◌||◌, and-true, and-false}
@@ -28,8 +29,6 @@ use Rattle.stores.specs.Stores.{change_stores}
 use Rattle.stores.specs.Steps.{Made, chosen}
 use Rattle.stores.proofs.Changes.{change-needs}
 use Rattle.tag.specs.declared.Live.{Live}
-use Rattle.tag.specs.declared.Power.{Power}
-use Rattle.tag.specs.declared.Power.TheVariants as power
 use Rattle.tag.specs.declared.Session.{Session}
 use Rattle.tag.specs.Session.{off_session}
 use Rattle.tag.specs.Result.{Result, leaves, lost, first_of}
@@ -39,7 +38,7 @@ use Rattle.tag.specs.Steps.{gives, kept, needed_for, on_session, held_row, front
 use Rattle.tag.specs.Port.{bit_of, register_to, with_killed, with_unwritten, bad_count, bad_data, read_bits, read_of, port_open, port_writes, written_words, port_words, some_unwritten, write_of}
 use Rattle.tag.specs.PortSteps.{end_row, read_row, read_room, after_killed, write_end, passing, Masked}
 use Rattle.tag.proofs.Plans.{none_or}
-use Rattle.tag.proofs.Fronts.{own_row, held-own, Passed, front-few, front-passes, front-stops, front-over}
+use Rattle.tag.proofs.Fronts.{own_row, held-own, Passed, front-passes, front-stops, front-over}
 
 -- the first of three tests that holds
 module _ (a b c : Bool) where
@@ -172,16 +171,6 @@ module _ (killed : Bool) (m : List ℕ) (at count : ℕ) (room : List ℕ) where
 
 -- the table of a read, from its number
 module _ (m : List ℕ) (at count : ℕ) (room : List ℕ) (v : Session) {h r : ℕ} (holds : h ≡ held_row v.power) (row : r ≡ read_row h m at count (length room)) where
-  pub read-few : r ≤ 13
-  unfolding read_row end_row
-  read-few = go (eqb (front_row h m) 0) (bad_count (layout_of m) at count) (ltb (length room) (2 * count)) row
-    where
-      go : (t f g : Bool) → r ≡ cond t (last_row f g) (front_row h m) → r ≤ 13
-      go true true g e = omega arith
-      go true false true e = omega arith
-      go true false false e = omega arith
-      go false f g e = omega (arith, e, front-few v m (not (live_of v.power).held) (holds ∙ held-own v.power) refl)
-
   pub read-stops : (r ≡ 0 → ⊥) → leaves r v m room ≡ first_of (read_of v m at count room)
   unfolding read_of read_row end_row
   read-stops z = go (eqb (front_row h m) 0) refl
@@ -216,10 +205,10 @@ module _ (m : List ℕ) (at count : ℕ) (room : List ℕ) (v : Session) {h r : 
     read-counts = ended.0
 
     -- the session afterwards
-    shown_by : (p : Power) → is_off p ≡ false → (k : Bool) → cond k (after_killed p) (record { power = p }) ≡ register_to (live_of p) (cond k (with_killed (live_of p).register) (live_of p).register)
-    shown_by power.Off h k = absurd (true≢false h)
-    shown_by (power.On l) h true = refl
-    shown_by (power.On l) h false = refl
+    shown_by : (p : Option Live) → is_off p ≡ false → (k : Bool) → cond k (after_killed p) (record { power = p }) ≡ register_to (live_of p) (cond k (with_killed (live_of p).register) (live_of p).register)
+    shown_by None h k = absurd (true≢false h)
+    shown_by (Some l) h true = refl
+    shown_by (Some l) h false = refl
 
     pub read-shows : (k : Bool) → k ≡ is_killed (live_of v.power).state
         → gives 0 (cond k (after_killed v.power) v) (16 * count) 0 m (packed (read_bits (layout_of m) m k at count) room) ≡ first_of (read_of v m at count room)
@@ -391,13 +380,10 @@ module _ (m : List ℕ) (at : ℕ) (d : List ℕ) (s : ℕ) where
     unfolding write_of
     write-stops z = front-stops v m (not (live_of v.power).held) (own ∙ held-own v.power) is (λ k. leaves k v m []) _ z
 
-    pub write-few : row ≤ 13
-    write-few = front-few v m (not (live_of v.power).held) (own ∙ held-own v.power) is
-
     pub write-passes : row ≡ 0 → Passed v.power m (not (live_of v.power).held)
     write-passes z = front-passes v m (not (live_of v.power).held) (own ∙ held-own v.power) is z
 
-  module _ (l : Live) (p : Passed (power.On l) m (not l.held)) where
+  module _ (l : Live) (p : Passed (Some l) m (not l.held)) where
     pub write-counts : bad_data (layout_of m) at d ≡ true → kept 13 l m [] ≡ first_of (write_of change_stores (on_session l) m at d s)
     unfolding write_of write_end
     write-counts e = sym (front-over (on_session l) m (not l.held) p (λ k. kept k l m []) _ ∙ ap (λ (b : Bool). cond b (kept 13 l m []) (write_end l (layout_of m) m at d s)) e)

@@ -1,4 +1,5 @@
 -- A session written as a record and read again is the session, and the code's reading of a record is `session_of`. Assumes nothing.
+use Rattle.std.specs.Prelude.{Option, None, Some}
 use Prim.Native.Nat.{ℕ, zero, suc, ◌+◌, ◌*◌, ◌/◌, ◌%◌, ◌^◌, ◌≤◌, ◌<◌}
 use mathlib.Core.Path.{◌≡◌, refl, sym, ap, subst, ◌∙◌}
 use mathlib.Core.Bool.{true≢false, Bool, true, false, cond, not, ◌&&◌, ◌||◌}
@@ -7,8 +8,6 @@ use native.Mathlib.Omega.{arith}
 use lib.Dec.{eqb, leb, ltb}
 use borrow.Author.Tests.{eq-eqb, ne_eqb, eqb-true, eqb-false, leb-true, lt-ltb, le-ltb, ltb-true, ltb-false, not-true}
 use Rattle.bits.proofs.Below.{and_left, and_right, and_both, all-each, every-at}
-use Rattle.states.specs.declared.Cover.{Cover}
-use Rattle.states.specs.declared.Cover.TheVariants as cover
 use Rattle.states.specs.declared.Half.{Half}
 use Rattle.states.specs.declared.Half.TheVariants as half
 use Rattle.states.specs.declared.Flags.{Flags}
@@ -23,8 +22,6 @@ use Rattle.states.proofs.ByNumber.{both, all, each6, alike, flags}
 use Rattle.states.proofs.Parts.{equal}
 use Rattle.tag.specs.declared.Register.{Register}
 use Rattle.tag.specs.declared.Live.{Live}
-use Rattle.tag.specs.declared.Power.{Power}
-use Rattle.tag.specs.declared.Power.TheVariants as power
 use Rattle.tag.specs.declared.Session.{Session}
 use Rattle.tag.specs.Session.{off_session, on}
 use Rattle.tag.specs.Table.{is_off, live_of}
@@ -37,14 +34,14 @@ bit-again : (b : Bool) → not (eqb (bit_of b) 0) ≡ b
 bit-again true = refl
 bit-again false = refl
 
-cover_again : (c : Cover) → cover_of (covered_in c) (cover_in c) ≡ c
-cover_again cover.Nothing = refl
-cover_again (cover.Number n) = refl
+cover_again : (c : Option ℕ) → cover_of (covered_in c) (cover_in c) ≡ c
+cover_again None = refl
+cover_again (Some n) = refl
 
-half-again : (h : Half) → half_of (half_in h) (upper_in h) ≡ h
-half-again half.Nothing = refl
-half-again (half.Access u) = refl
-half-again (half.Kill u) = refl
+half-again : (h : Option Half) → half_of (half_in h) (upper_in h) ≡ h
+half-again None = refl
+half-again (Some (half.Access u)) = refl
+half-again (Some (half.Kill u)) = refl
 
 link-again : (k : Link) → link_from (numbers_with 0 0 (flags true true true true true) (state.Open k)) ≡ k
 link-again k = λ i. record { round = k.round; handle = k.handle; cover = cover_again k.cover i; half = half-again k.half i }
@@ -91,10 +88,10 @@ unfolding same
 same_self v = simp (eq-eqb v.state v.state refl, eq-eqb v.held v.held refl, eq-eqb v.reg v.reg refl, eq-eqb v.covered v.covered refl, eq-eqb v.half v.half refl, eq-eqb v.round v.round refl, eq-eqb v.q v.q refl, eq-eqb v.flags v.flags refl, eq-eqb v.number v.number refl, eq-eqb v.cover v.cover refl, eq-eqb v.upper v.upper refl, eq-eqb v.slot v.slot refl)
 
 -- THE LAW: a session written and read is the session
-pub again : (p : Power) → session_of (numbers_of p) ≡ record { power = p }
+pub again : (p : Option Live) → session_of (numbers_of p) ≡ record { power = p }
 unfolding session_of loose_of same
-again power.Off = refl
-again (power.On l) = rw (loose-again l l.state) (simp (same_self (numbers_on l)))
+again None = refl
+again (Some l) = rw (loose-again l l.state) (simp (same_self (numbers_on l)))
 
 -- numbers that are `same` are equal
 same-is : (a b : Numbers) → same a b ≡ true → a ≡ b
@@ -350,12 +347,12 @@ fit-near r e =
 
 -- and is that session's own
 pub fit-live : (r : Record) → fits_of r ≡ true
-    → (session_of (numbers_in r) ≡ record { power = power.On (live_of (session_of (numbers_in r)).power) }) × (numbers_on (live_of (session_of (numbers_in r)).power) ≡ numbers_in r)
+    → (session_of (numbers_in r) ≡ record { power = Some (live_of (session_of (numbers_in r)).power) }) × (numbers_on (live_of (session_of (numbers_in r)).power) ≡ numbers_in r)
 unfolding near_of
 fit-live r e =
     let v = numbers_in r in
     let s : near_of v ≡ session_of v = fit-near r e in
-    let up : session_of v ≡ record { power = power.On (live_of (session_of v).power) } = subst (λ (x : Session). x ≡ record { power = power.On (live_of x.power) }) s refl in
+    let up : session_of v ≡ record { power = Some (live_of (session_of v).power) } = subst (λ (x : Session). x ≡ record { power = Some (live_of x.power) }) s refl in
     (up, sym (ap (λ (x : Session). numbers_of x.power) up) ∙ only v (λ q. true≢false (sym (ap (λ (x : Session). is_off x.power) (s ∙ q)))))
 
 -- the record of any session under power fits
@@ -363,18 +360,18 @@ share-small : (b : Bool) (w : ℕ) → cond b w 0 ≤ w
 share-small true w = omega arith
 share-small false w = omega arith
 
-covered-small : (c : Cover) → covered_in c ≤ 1
-covered-small cover.Nothing = omega arith
-covered-small (cover.Number n) = omega arith
+covered-small : (c : Option ℕ) → covered_in c ≤ 1
+covered-small None = omega arith
+covered-small (Some n) = omega arith
 
-cover-zero : (c : Cover) → (not (eqb (covered_in c) 0) || eqb (cover_in c) 0) ≡ true
-cover-zero cover.Nothing = refl
-cover-zero (cover.Number n) = refl
+cover-zero : (c : Option ℕ) → (not (eqb (covered_in c) 0) || eqb (cover_in c) 0) ≡ true
+cover-zero None = refl
+cover-zero (Some n) = refl
 
-upper-zero : (h : Half) → cond (eqb (half_in h) 0) (eqb (upper_in h) 0) (leb (half_in h) 2) ≡ true
-upper-zero half.Nothing = refl
-upper-zero (half.Access u) = refl
-upper-zero (half.Kill u) = refl
+upper-zero : (h : Option Half) → cond (eqb (half_in h) 0) (eqb (upper_in h) 0) (leb (half_in h) 2) ≡ true
+upper-zero None = refl
+upper-zero (Some (half.Access u)) = refl
+upper-zero (Some (half.Kill u)) = refl
 
 none-large : (a b c d : ℕ) → a ≤ 1 → b ≤ 3 → c ≤ 1 → d ≤ 31 → ((ltb 1 a || ltb 3 b) || (ltb 1 c || ltb 31 d)) ≡ false
 none-large a b c d p q s t = rw (le-ltb 1 a p, le-ltb 3 b q, le-ltb 1 c s, le-ltb 31 d t)
@@ -446,9 +443,9 @@ pub unfit-off : (r : Record) → fits_of r ≡ false → session_of (numbers_in 
 unfolding session_of
 unfit-off r n = go (same (numbers_of (loose_of (numbers_in r)).power) (numbers_in r)) refl
   where
-    own : (p : Power) → (loose_of (numbers_in r)).power ≡ p → numbers_of p ≡ numbers_in r → loose_of (numbers_in r) ≡ off_session
-    own power.Off e q = ap (λ (p : Power). record { power = p }) e
-    own (power.On l) e q = absurd (true≢false (sym (fit r l q) ∙ n))
+    own : (p : Option Live) → (loose_of (numbers_in r)).power ≡ p → numbers_of p ≡ numbers_in r → loose_of (numbers_in r) ≡ off_session
+    own None e q = ap (λ (p : Option Live). record { power = p }) e
+    own (Some l) e q = absurd (true≢false (sym (fit r l q) ∙ n))
 
     go : (b : Bool) → same (numbers_of (loose_of (numbers_in r)).power) (numbers_in r) ≡ b → session_of (numbers_in r) ≡ off_session
     go true e = rw e (own (loose_of (numbers_in r)).power refl (same-is _ _ e))

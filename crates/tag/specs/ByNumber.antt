@@ -73,6 +73,12 @@ unfoldable pub drawn_at : Numbers → ℕ → ℕ → ℕ → ℕ → ℕ → Li
 drawn_at v f k q slot fresh m room =
     cond (eqb slot 0) (tell_at v m room (reply.Drawn fresh) (bare_to v 3 f k q fresh 0)) (done_at (bare_to v 2 f k q 0 slot) 0 0 m room)
 
+-- in the round of session k: from Acknowledged on it is left, else another Q and slot
+unfoldable pub moved_at : Numbers → ℕ → ℕ → ℕ → ℕ → List ℕ → List ℕ → Left Numbers
+moved_at v k q slot fresh m room =
+    cond (not (past v 1 && eqb v.round k)) (stays 9 v m room)
+    (cond (past v 3) (done_at (left_in v) 0 0 m room) (drawn_at v v.flags v.round q slot fresh m room))
+
 unfoldable pub rep_at : Numbers → ℕ → ℕ → List ℕ → List ℕ → Left Numbers
 rep_at v k fresh m room =
     cond (not (past v 1 && eqb v.round k)) (stays 9 v m room)
@@ -137,6 +143,21 @@ Sound w n (plan.Word v at) = Holds w at 1 n
 Sound w n (plan.Bits at k p) = Holds w at k n × (p ≤ 51)
 Sound w n (plan.Zeros at k) = Holds w at k n
 Sound w n (plan.Mask at k p) = Holds w at k n × (p ≤ 51) × (k ≤ 16)
+
+-- the words that a plan stores
+abbrev pub words_of : List ℕ → List ℕ → Plan → List Store
+words_of m f plan.Nothing = []
+words_of m f (plan.Error e) = []
+words_of m f plan.Fall = []
+words_of m f plan.Number = []
+words_of m f (plan.Half kind up) = []
+words_of m f plan.Secure = []
+words_of m f (plan.Kill w at) = store at w ∷ []
+words_of m f (plan.Words at k) = []
+words_of m f (plan.Word w at) = store at w ∷ []
+words_of m f (plan.Bits at n p) = below (word_from at f p) n
+words_of m f (plan.Zeros at n) = below (λ j. store (at + j) 0) n
+words_of m f (plan.Mask at n p) = below (or_to m f at p) n
 
 -- what a plan comes to, with this handle
 abbrev pub perform_at : Numbers → ℕ → Layout → List ℕ → List ℕ → ℕ → List ℕ → ℕ → Plan → Left Numbers

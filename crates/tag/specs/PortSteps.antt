@@ -1,5 +1,5 @@
 -- The port as the code answers it: the outcome of a call, and a transfer's ends. Assumes nothing.
-use Rattle.std.specs.Prelude.{ℕ, zero, suc, ◌+◌, ◌*◌, ◌/◌, ◌<◌, ◌≡◌, Bool, cond, List, [], eqb, ltb, length, get_or}
+use Rattle.std.specs.Prelude.{ℕ, zero, suc, ◌+◌, ◌*◌, ◌/◌, ◌<◌, ◌≡◌, Bool, cond, List, [], eqb, ltb, length, get_or, Option, None, Some}
 use Rattle.bits.specs.Words.{after}
 use Rattle.image.specs.declared.Layout.{Layout}
 use Rattle.image.specs.Layout.{layout_of}
@@ -7,8 +7,6 @@ use Rattle.rights.specs.Rights.{block_open}
 use Rattle.replies.specs.Pack.{packed}
 use Rattle.stores.specs.Stores.{change_stores}
 use Rattle.tag.specs.declared.Live.{Live}
-use Rattle.tag.specs.declared.Power.{Power}
-use Rattle.tag.specs.declared.Power.TheVariants as power
 use Rattle.tag.specs.declared.Register.{Register}
 use Rattle.tag.specs.declared.Session.{Session}
 use Rattle.tag.specs.Session.{off_session, on}
@@ -37,9 +35,9 @@ unfoldable pub read_room : ℕ → Bool → List ℕ → ℕ → ℕ → List �
 read_room row killed m at count room = cond (eqb row 0) (packed (read_bits (layout_of m) m killed at count) room) room
 
 -- the session with bit 0 set, under power
-abbrev pub after_killed : Power → Session
-after_killed power.Off = off_session
-after_killed (power.On l) = register_to l (with_killed l.register)
+abbrev pub after_killed : Option Live → Session
+after_killed None = off_session
+after_killed (Some l) = register_to l (with_killed l.register)
 
 -- a write that 13 does not stop
 unfoldable pub write_end : Live → Layout → List ℕ → ℕ → List ℕ → ℕ → Result

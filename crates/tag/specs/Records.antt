@@ -1,8 +1,6 @@
 -- A session as the numbers of its record, and back (RULES 10.1 to 10.3). Assumes nothing.
-use Rattle.std.specs.Prelude.{ℕ, ◌/◌, ◌%◌, ◌^◌, Bool, cond, not, ◌&&◌, eqb}
+use Rattle.std.specs.Prelude.{ℕ, ◌/◌, ◌%◌, ◌^◌, Bool, cond, not, ◌&&◌, eqb, Option, None, Some}
 use Rattle.frames.specs.declared.Round.{Round}
-use Rattle.states.specs.declared.Cover.{Cover}
-use Rattle.states.specs.declared.Cover.TheVariants as cover
 use Rattle.states.specs.declared.Half.{Half}
 use Rattle.states.specs.declared.Half.TheVariants as half
 use Rattle.states.specs.declared.Flags.{Flags}
@@ -13,8 +11,6 @@ use Rattle.states.specs.declared.Numbers.{Numbers}
 use Rattle.states.specs.Numbers.{numbers_with}
 use Rattle.tag.specs.declared.Register.{Register}
 use Rattle.tag.specs.declared.Live.{Live}
-use Rattle.tag.specs.declared.Power.{Power}
-use Rattle.tag.specs.declared.Power.TheVariants as power
 use Rattle.tag.specs.declared.Session.{Session}
 use Rattle.tag.specs.Session.{off_session, on}
 use Rattle.tag.specs.Result.{Left, Result}
@@ -42,16 +38,16 @@ abbrev pub numbers_on : Live → Numbers
 numbers_on l = numbers_with (bit_of l.held) (number_in l.register) l.flags l.state
 
 -- THE NUMBERS of a session
-abbrev pub numbers_of : Power → Numbers
-numbers_of power.Off = blank
-numbers_of (power.On l) = numbers_on l
+abbrev pub numbers_of : Option Live → Numbers
+numbers_of None = blank
+numbers_of (Some l) = numbers_on l
 
 -- reading: the session that the numbers come nearest to
-abbrev pub cover_of : ℕ → ℕ → Cover
-cover_of covered n = cond (eqb covered 0) cover.Nothing (cover.Number n)
+abbrev pub cover_of : ℕ → ℕ → Option ℕ
+cover_of covered n = cond (eqb covered 0) None (Some n)
 
-abbrev pub half_of : ℕ → ℕ → Half
-half_of kind u = cond (eqb kind 0) half.Nothing (cond (eqb kind 1) (half.Access u) (half.Kill u))
+abbrev pub half_of : ℕ → ℕ → Option Half
+half_of kind u = cond (eqb kind 0) None (cond (eqb kind 1) (Some (half.Access u)) (Some (half.Kill u)))
 
 abbrev pub round_from : Numbers → Round
 round_from v = record { session = v.round; q = v.q }

@@ -1,19 +1,18 @@
 -- Sessions and the numbers of the answer table (RULES 3.1, 3.3 and 5). Assumes nothing.
-use Rattle.std.specs.Prelude.{ℕ, Bool, false}
+use Rattle.std.specs.Prelude.{ℕ, ◌≡◌, Bool, false, cond, Result, Ok, Err, None, Some}
 use Rattle.states.specs.declared.Flags.{Flags}
 use Rattle.states.specs.declared.State.{State}
 use Rattle.tag.specs.declared.Register.{Register}
-use Rattle.tag.specs.declared.Power.TheVariants as power
 use Rattle.tag.specs.declared.Session.{Session}
 use Rattle.tag.specs.declared.Answer.{Answer}
 use Rattle.tag.specs.declared.Answer.TheVariants as answer
 
 abbrev pub off_session : Session
-off_session = record { power = power.Off }
+off_session = record { power = None }
 
 -- a session under power: flags, state, port and register
 abbrev pub on : Flags → State → Bool → Register → Session
-on flags state held register = record { power = power.On (record { flags = flags; state = state; held = held; register = register }) }
+on flags state held register = record { power = Some (record { flags = flags; state = state; held = held; register = register }) }
 
 abbrev pub clear : Register
 clear = record { unwritten = false; killed = false }
@@ -43,3 +42,21 @@ number_of answer.PowerLost = 11
 number_of answer.Password = 12
 number_of answer.Count = 13
 number_of answer.Halves = 14
+
+-- the number of an answer that stops a call, or 0; and it is none of 0
+abbrev pub row_in : Result Unit Answer → ℕ
+row_in (Ok u) = 0
+row_in (Err a) = number_of a
+
+abbrev pub Stops : Result Unit Answer → Type 0
+Stops (Ok u) = Unit {0}
+Stops (Err a) = number_of a ≡ 0 → ⊥
+
+-- the same of an image: 5 where words are pending; and an answer is the check's
+abbrev pub ready_in : Result Bool Answer → ℕ
+ready_in (Ok pending) = cond pending 5 0
+ready_in (Err a) = number_of a
+
+abbrev pub Rejects : Result Bool Answer → Type 0
+Rejects (Ok pending) = Unit {0}
+Rejects (Err a) = (number_of a ≡ 0 → ⊥) × (number_of a ≡ 5 → ⊥)

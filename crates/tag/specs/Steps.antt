@@ -1,6 +1,6 @@
 -- Outcomes as the code makes them; the table's ends, of whatever stands for the session; and steps over a session, between the table and the code's own (ByNumber).
 -- Assumes nothing.
-use Rattle.std.specs.Prelude.{ℕ, ◌+◌, ◌*◌, cond, not, List, [], eqb, ltb, length, take}
+use Rattle.std.specs.Prelude.{ℕ, ◌+◌, ◌*◌, cond, not, List, [], eqb, ltb, length, take, Option, None, Some}
 use Rattle.bits.specs.Words.{Store, after}
 use Rattle.image.specs.declared.Layout.{Layout}
 use Rattle.image.specs.Content.{killed_word}
@@ -20,8 +20,6 @@ use Rattle.stores.specs.Stores.{change_stores, power_stores}
 use Rattle.states.specs.declared.State.{State}
 use Rattle.states.specs.declared.State.TheVariants as state
 use Rattle.tag.specs.declared.Live.{Live}
-use Rattle.tag.specs.declared.Power.{Power}
-use Rattle.tag.specs.declared.Power.TheVariants as power
 use Rattle.tag.specs.declared.Session.{Session}
 use Rattle.tag.specs.declared.Answer.{Answer}
 use Rattle.tag.specs.declared.Answer.TheVariants as answer
@@ -44,14 +42,14 @@ input session image frame bits fresh room power =
     record { session = session; image = image; frame = frame; bits = bits; fresh = fresh; room = room; power = power }
 
 -- a session's own answer: 5 where it is Off, else one number where the port is held and one where it is free
-abbrev pub session_row : Power → ℕ → ℕ → ℕ
-session_row power.Off held free = 5
-session_row (power.On l) held free = cond l.held held free
+abbrev pub session_row : Option Live → ℕ → ℕ → ℕ
+session_row None held free = 5
+session_row (Some l) held free = cond l.held held free
 
-abbrev pub radio_row : Power → ℕ
+abbrev pub radio_row : Option Live → ℕ
 radio_row p = session_row p 6 0
 
-abbrev pub held_row : Power → ℕ
+abbrev pub held_row : Option Live → ℕ
 held_row p = session_row p 0 6
 
 -- the number of the first of the rows 1, 2, 3, 5 and 6 that holds, or 0, by the session's h
@@ -78,11 +76,7 @@ started y m s =
 
 -- a session under power
 abbrev pub on_session : Live → Session
-on_session l = record { power = power.On l }
-
--- everything stays
-abbrev pub refused_with : Live → Answer → Outcome
-refused_with l a = record { answer = a; session = on_session l; reply = 0; stores = 0; value = 0 }
+on_session l = record { power = Some l }
 
 abbrev pub kept : ℕ → Live → List ℕ → List ℕ → Result
 kept n l m room = leaves n (on_session l) m room

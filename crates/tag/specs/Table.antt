@@ -1,5 +1,5 @@
 -- The answer table for frames, in its order (RULES 5). Assumes nothing.
-use Rattle.std.specs.Prelude.{ℕ, ◌+◌, ◌/◌, Bool, true, false, not, ◌&&◌, ◌||◌, List, [], ◌∷◌, ◌++◌, eqb, ltb, length}
+use Rattle.std.specs.Prelude.{ℕ, ◌+◌, ◌/◌, Bool, true, false, not, ◌&&◌, ◌||◌, List, [], ◌∷◌, ◌++◌, eqb, ltb, length, Option, None, Some}
 use Rattle.bits.specs.Words.{Store}
 use Rattle.image.specs.declared.Layout.{Layout}
 use Rattle.image.specs.Layout.{layout_of}
@@ -20,8 +20,6 @@ use Rattle.states.specs.declared.Flags.{Flags}
 use Rattle.states.specs.declared.State.{State}
 use Rattle.states.specs.declared.State.TheVariants as state
 use Rattle.tag.specs.declared.Live.{Live}
-use Rattle.tag.specs.declared.Power.{Power}
-use Rattle.tag.specs.declared.Power.TheVariants as power
 use Rattle.tag.specs.declared.Session.{Session}
 use Rattle.tag.specs.Session.{on, new_flags, clear}
 use Rattle.tag.specs.Result.{Result, leaves, replying, storing, lost, Answers}
@@ -41,14 +39,14 @@ pub record Input : Type 0 where
 abbrev pub layout : Input → Layout
 layout i = layout_of i.image
 
-abbrev pub is_off : Power → Bool
-is_off power.Off = true
-is_off (power.On l) = false
+abbrev pub is_off : Option Live → Bool
+is_off None = true
+is_off (Some l) = false
 
 -- of an Off session nothing is asked past answer 5: a new one in Ready stands in
-abbrev pub live_of : Power → Live
-live_of power.Off = record { flags = new_flags; state = state.Ready; held = false; register = clear }
-live_of (power.On l) = l
+abbrev pub live_of : Option Live → Live
+live_of None = record { flags = new_flags; state = state.Ready; held = false; register = clear }
+live_of (Some l) = l
 
 abbrev pub live : Input → Live
 live i = live_of i.session.power

@@ -1,79 +1,61 @@
-// The first answers of a call with an image, 1, 2, 3, 5 and 6, as numbers of the table, and the answer of a number (RULES 5).
-ghost use Rattle.std.specs.Prelude.{◌≡◌, ◌≤◌};
-ghost use Rattle.tag.specs.Session.{number_of};
-ghost use Rattle.tag.specs.Steps.{kept_with, held_row, front_by, front_row};
+// The first answers of a call with an image, 1, 2, 3, 5 and 6 (RULES 5).
+ghost use Rattle.std.specs.Prelude.{◌≡◌};
+ghost use Rattle.image.specs.Steps.{ready_row};
+ghost use Rattle.tag.specs.Session.{number_of, row_in, Stops, ready_in, Rejects};
+ghost use Rattle.tag.specs.Steps.{held_row, front_by, front_row};
 
-use crate::{Answer, Outcome, Power, Session};
+use crate::{Answer, Session};
 
-// Everything stays.
-pub fn unmoved(session: Session, answer: Answer) -> Outcome
-    ensures { result ≡ kept_with session answer }
+// Whether an image has pending words, or the check's answer.
+pub fn checked(image: &[u8]) -> Result<bool, Answer>
+    ensures { (ready_in result ≡ ready_row image.now) × Rejects result }
 {
-    Outcome {
-        answer: answer,
-        session: session,
-        reply: 0,
-        stores: 0,
-        value: 0,
+    match image::ready(image) {
+        0 => Ok(false),
+        1 => Err(Answer::Short),
+        2 => Err(Answer::Header),
+        3 => Err(Answer::Content),
+        _ => Ok(true),
     }
 }
 
-// The answer of a number of the table, up to 13: neither a front nor a transfer gives 14.
-pub fn answer_of(n: u8) -> Answer
-    requires { n ≤ 13 }
-    ensures { number_of result ≡ n }
+// The answer of an image that is no good, or has pending words.
+pub fn ready(image: &[u8]) -> Result<(), Answer>
+    ensures { (row_in result ≡ ready_row image.now) × Stops result }
 {
-    match n {
-        0 => Answer::Done,
-        1 => Answer::Short,
-        2 => Answer::Header,
-        3 => Answer::Content,
-        4 => Answer::NoRoom,
-        5 => Answer::NotReady,
-        6 => Answer::Port,
-        7 => Answer::Malformed,
-        8 => Answer::Checksum,
-        9 => Answer::Wrong,
-        10 => Answer::Error,
-        11 => Answer::PowerLost,
-        12 => Answer::Password,
-        _ => Answer::Count,
+    if checked(image)? {
+        return Err(Answer::NotReady);
     }
+    Ok(())
 }
 
 // The answer of an Off session: the image's, or 5.
-pub fn or_five(row: u8) -> u8
-    ensures { result ≡ front_by 5 row }
+pub fn or_five(ready: Result<(), Answer>) -> Answer
+    requires { Stops ready }
+    ensures { number_of result ≡ front_by 5 (row_in ready) }
 {
-    if row == 0 {
-        return 5;
-    }
-    row
-}
-
-// A session's own answer to the port's transfers: 5 where it is Off, 6 where the port is free, or 0.
-pub fn held_row(session: Session) -> u8
-    ensures { result ≡ held_row session.power }
-{
-    let power = session.power;
-    match power {
-        Power::Off => 5,
-        Power::On(l) => {
-            if l.held {
-                return 0;
-            }
-            6
-        }
+    match ready {
+        Ok(()) => Answer::NotReady,
+        Err(answer) => answer,
     }
 }
 
-// The first answer of an image and a session, of which h is known, or 0.
-pub fn front(h: u8, image: &[u8]) -> u8
-    ensures { result ≡ front_row h image.now }
+// A session's own answer to the port's transfers: 5 where it is Off, 6 where the port is free.
+pub fn held(session: Session) -> Result<(), Answer>
+    ensures { (row_in result ≡ held_row session.power) × Stops result }
 {
-    let v = image::ready(image);
-    if v == 0 {
-        return h;
+    match session.power {
+        None => Err(Answer::NotReady),
+        Some(l) if l.held => Ok(()),
+        Some(_) => Err(Answer::Port),
     }
-    v
+}
+
+// The first answer of an image and a session, whose own is h.
+#[tactic(auto, unfolding(crate::specs::Steps::front_row))]
+pub fn front(h: Result<(), Answer>, image: &[u8]) -> Result<(), Answer>
+    ensures { (row_in result ≡ front_row (row_in h) image.now) × (Stops h → Stops result) }
+{
+    ready(image)?;
+    h
 }

@@ -20,10 +20,10 @@ pub use radio::frame;
 pub use recording::{fits, off_record, record_of, session_of};
 pub use starting::power_up;
 use states::Record;
-pub use states::{Cover, Flags, Half, Link, State};
+pub use states::{Flags, Half, Link, State};
 
 // The port's error register: bit 1, some word wasn't written; bit 0, killed.
-#[derive(Clone, Copy)]
+#[derive(Clone, Copy, Debug, PartialEq, Eq)]
 pub struct Register {
     pub unwritten: bool,
     pub killed: bool,
@@ -38,19 +38,14 @@ pub struct Live {
     pub state: State,
 }
 
-#[derive(Clone, Copy)]
-pub enum Power {
-    Off,
-    On(Live),
-}
-
+// Off, or under power.
 #[derive(Clone, Copy)]
 pub struct Session {
-    pub power: Power,
+    pub power: Option<Live>,
 }
 
 // The answers of the table.
-#[derive(Clone, Copy)]
+#[derive(Clone, Copy, Debug, PartialEq, Eq)]
 pub enum Answer {
     Done,
     Short,
@@ -89,24 +84,28 @@ pub struct Noted {
 }
 
 // An answer's number in the table (RULES 5).
-pub fn number(answer: Answer) -> u8
-    ensures { result ≡ number_of answer }
-{
-    match answer {
-        Answer::Done => 0,
-        Answer::Short => 1,
-        Answer::Header => 2,
-        Answer::Content => 3,
-        Answer::NoRoom => 4,
-        Answer::NotReady => 5,
-        Answer::Port => 6,
-        Answer::Malformed => 7,
-        Answer::Checksum => 8,
-        Answer::Wrong => 9,
-        Answer::Error => 10,
-        Answer::PowerLost => 11,
-        Answer::Password => 12,
-        Answer::Count => 13,
-        Answer::Halves => 14,
+impl From<Answer> for u8 {
+    ghost from_gives = { λ a n. n ≡ number_of a };
+
+    fn from(answer: Answer) -> u8
+        ensures { result ≡ number_of answer }
+    {
+        match answer {
+            Answer::Done => 0,
+            Answer::Short => 1,
+            Answer::Header => 2,
+            Answer::Content => 3,
+            Answer::NoRoom => 4,
+            Answer::NotReady => 5,
+            Answer::Port => 6,
+            Answer::Malformed => 7,
+            Answer::Checksum => 8,
+            Answer::Wrong => 9,
+            Answer::Error => 10,
+            Answer::PowerLost => 11,
+            Answer::Password => 12,
+            Answer::Count => 13,
+            Answer::Halves => 14,
+        }
     }
 }

@@ -1,24 +1,25 @@
 // The ends of the answer table for a frame, over a session's record: refused, a reply, stores and a reply (RULES 5).
-ghost use Rattle.std.specs.Prelude.{◌≡◌, List, [], ◌∷◌, ℕ, ◌+◌, ◌*◌, ◌≤◌, ◌<◌, ◌^◌, length};
-ghost use Rattle.bits.specs.Words.{store as store_of};
-ghost use Rattle.bits.specs.Below.{below};
-ghost use Rattle.changes.specs.Changes.{Holds, or_to};
-ghost use Rattle.stores.specs.Steps.{word_from};
+ghost use Rattle.std.specs.Prelude.{◌≡◌, List, ℕ, ◌+◌, ◌*◌, ◌≤◌, ◌<◌, length};
+ghost use Rattle.stores.specs.Stores.{change_stores};
+ghost use Rattle.stores.specs.Steps.{Made};
 ghost use Rattle.replies.specs.declared.Reply.TheVariants as reply;
 ghost use Rattle.states.specs.Numbers.{numbers_in};
-ghost use Rattle.states.specs.ByNumber.{used_in};
-ghost use Rattle.tag.specs.Session.{number_of};
-ghost use Rattle.tag.specs.ByNumber.{noted, refused_at, done_at, error_at, tell_at, store_at, finish_at, dropped_at, gated_at};
+ghost use Rattle.states.specs.ByNumber.{used_in, fallen_in};
+ghost use Rattle.states.specs.Steps.{stop_number};
+ghost use Rattle.tag.specs.declared.Answer.TheVariants as Answer;
+ghost use Rattle.tag.specs.ByNumber.{noted, Sound, words_of, refused_at, error_at, tell_at, store_at, finish_at, gated_at};
 
 use crate::{Answer, Noted, answering, recording};
-use states::{Numbers, Record, leaving, pack, unpack};
+use plans::Plan;
+use states::stopping::Stop;
+use states::{Numbers, Record, leaving};
 
 // Everything stays.
 pub fn refused(r: Record, answer: Answer) -> Noted
     ensures { result ≡ refused_at r answer }
 {
     Noted {
-        answer: answer,
+        answer,
         session: r,
         reply: 0,
         stores: 0,
@@ -27,42 +28,39 @@ pub fn refused(r: Record, answer: Answer) -> Noted
 
 // Another session, with a reply and stores or without.
 pub fn done(v: Numbers, reply: usize, stores: usize) -> Noted
-    ensures { (m room : List ℕ) → noted result m room ≡ done_at v reply stores m room }
+    ensures { (result.answer ≡ Answer.Done) × (numbers_in result.session ≡ v) × (result.reply ≡ reply) × (result.stores ≡ stores) }
 {
     Noted {
         answer: Answer::Done,
-        session: pack(v),
-        reply: reply,
-        stores: stores,
+        session: Record::from(v),
+        reply,
+        stores,
     }
 }
 
 // Back to Arbitrate: the password is wrong, or its halves are broken.
 pub fn dropped(r: Record, answer: Answer) -> Noted
-    ensures { (m room : List ℕ) → noted result m room ≡ dropped_at (number_of answer) (numbers_in r) m room }
+    ensures { (result.answer ≡ answer) × (numbers_in result.session ≡ fallen_in (numbers_in r)) × (result.reply ≡ 0) × (result.stores ≡ 0) }
 {
     Noted {
-        answer: answer,
-        session: pack(leaving::fallen(unpack(r))),
-        reply: 0,
-        stores: 0,
+        session: Record::from(leaving::fallen(Numbers::from(r))),
+        ..refused(r, answer)
     }
 }
 
-// A command that the gate stopped: wrong, or its halves make a wrong password or are broken.
-pub fn stopped(r: Record, g: u8) -> Noted
-    ensures { (m room : List ℕ) → noted result m room ≡ gated_at g (numbers_in r) m room }
+// A command that the gate stopped.
+pub fn stopped(r: Record, stop: Stop) -> Noted
+    ensures { (m room : List ℕ) → noted result m room ≡ gated_at (stop_number stop) (numbers_in r) m room }
 {
-    if g == 9 {
-        return refused(r, Answer::Wrong);
+    match stop {
+        Stop::Wrong => refused(r, Answer::Wrong),
+        Stop::Password => dropped(r, Answer::Password),
+        Stop::Halves => dropped(r, Answer::Halves),
     }
-    if g == 12 {
-        return dropped(r, Answer::Password);
-    }
-    dropped(r, Answer::Halves)
 }
 
 // An error's reply; the cover number is used up.
+#[tactic(auto, unfolding(crate::specs::Steps::error_by))]
 pub fn give_error(r: Record, handle: u16, e: u8, image: &[u8], room: &mut [u8]) -> Noted
     ensures { noted result image.now room.new ≡ error_at (numbers_in r) handle image.now room.old e }
 {
@@ -72,13 +70,14 @@ pub fn give_error(r: Record, handle: u16, e: u8, image: &[u8], room: &mut [u8]) 
     replies::put_error(room, e, handle);
     Noted {
         answer: Answer::Error,
-        session: pack(leaving::used(unpack(r))),
+        session: Record::from(leaving::used(Numbers::from(r))),
         reply: 41,
         stores: 0,
     }
 }
 
 // A number drawn, told without a CRC.
+#[tactic(auto, unfolding(crate::specs::Steps::done_by))]
 pub fn give_drawn(r: Record, next: Numbers, number: u16, image: &[u8], room: &mut [u8]) -> Noted
     ensures { noted result image.now room.new ≡ tell_at (numbers_in r) image.now room.old (reply.Drawn number) next }
 {
@@ -90,6 +89,7 @@ pub fn give_drawn(r: Record, next: Numbers, number: u16, image: &[u8], room: &mu
 }
 
 // PC and EPC, and no store.
+#[tactic(auto, unfolding(crate::specs::Steps::done_by))]
 pub fn give_epc(
     r: Record,
     next: Numbers,
@@ -110,6 +110,7 @@ pub fn give_epc(
 }
 
 // A number, and no store.
+#[tactic(auto, unfolding(crate::specs::Steps::done_by))]
 pub fn give_number(r: Record, next: Numbers, number: u16, image: &[u8], room: &mut [u8]) -> Noted
     ensures { noted result image.now room.new ≡ tell_at (numbers_in r) image.now room.old (reply.Number number) next }
 {
@@ -121,6 +122,7 @@ pub fn give_number(r: Record, next: Numbers, number: u16, image: &[u8], room: &m
 }
 
 // Words of the image, and no store; the cover number is used up.
+#[tactic(auto, unfolding(crate::specs::Steps::done_by))]
 pub fn give_words(
     r: Record,
     handle: u16,
@@ -137,10 +139,11 @@ pub fn give_words(
         return refused(r, Answer::NoRoom);
     }
     replies::put_words(room, image, at, count, handle);
-    done(leaving::used(unpack(r)), n, 0)
+    done(leaving::used(Numbers::from(r)), n, 0)
 }
 
 // After `made` of the stores that were needed: too little power, or done.
+#[tactic(auto, unfolding(crate::specs::ByNumber::finish_at))]
 fn finish(
     next: Numbers,
     handle: u16,
@@ -165,94 +168,56 @@ fn finish(
     done(next, 33, made)
 }
 
-// One word stored.
-pub fn store_word(
-    r: Record,
-    next: Numbers,
-    handle: u16,
-    at: usize,
-    v: u16,
-    work: usize,
-    image: &mut [u8],
-    room: &mut [u8],
-    s: usize,
-) -> Noted
-    requires { Holds work at 1 (length image.old) }
-    ensures { noted result image.new room.new ≡ store_at (numbers_in r) handle next work image.old room.old s (store_of at v ∷ []) }
+// The words of a plan stored; how many stores were made, and how many they need.
+fn stored(plan: Plan, frame: &[u8], work: usize, image: &mut [u8], s: usize) -> (usize, usize)
+    requires { Sound work (length image.old) plan }
+    ensures { Made (change_stores work (words_of image.old frame.now plan)) s image.old image.new result.0 × (result.1 ≡ length (change_stores work (words_of image.old frame.now plan))) }
 {
-    if room.len() < 5 {
-        return refused(r, Answer::NoRoom);
+    match plan {
+        Plan::Kill(w, at) | Plan::Word(w, at) => {
+            (
+                changes::store_one(image, work, at, w, s),
+                answering::needed(1),
+            )
+        }
+        Plan::Bits(at, n, from) => {
+            (
+                changes::store_bits(image, work, at, n, frame, from, s),
+                answering::needed(n),
+            )
+        }
+        Plan::Zeros(at, n) => (
+            changes::store_zeros(image, work, at, n, s),
+            answering::needed(n),
+        ),
+        Plan::Mask(at, n, from) => {
+            (
+                changes::store_mask(image, work, at, n, frame, from, s),
+                answering::needed(n),
+            )
+        }
+        _ => (0, 0),
     }
-    let made = changes::store_one(image, work, at, v, s);
-    finish(next, handle, image, room, made, 5, s)
 }
 
-// Words that a frame brings from bit `from` on.
-pub fn store_bits(
+// A plan's words stored, with its reply.
+pub fn store(
     r: Record,
     next: Numbers,
     handle: u16,
-    at: usize,
-    n: usize,
+    plan: Plan,
     frame: &[u8],
-    from: usize,
     work: usize,
     image: &mut [u8],
     room: &mut [u8],
     s: usize,
 ) -> Noted
-    requires { Holds work at n (length image.old) × (from < 2 ^ 61) }
-    ensures { noted result image.new room.new ≡ store_at (numbers_in r) handle next work image.old room.old s (below (word_from at frame.now from) n) }
+    requires { Sound work (length image.old) plan }
+    ensures { noted result image.new room.new ≡ store_at (numbers_in r) handle next work image.old room.old s (words_of image.old frame.now plan) }
 {
     if room.len() < 5 {
         return refused(r, Answer::NoRoom);
     }
-    let made = changes::store_bits(image, work, at, n, frame, from, s);
-    finish(next, handle, image, room, made, answering::needed(n), s)
-}
-
-// Zeros.
-pub fn store_zeros(
-    r: Record,
-    next: Numbers,
-    handle: u16,
-    at: usize,
-    n: usize,
-    work: usize,
-    image: &mut [u8],
-    room: &mut [u8],
-    s: usize,
-) -> Noted
-    requires { Holds work at n (length image.old) }
-    ensures { noted result image.new room.new ≡ store_at (numbers_in r) handle next work image.old room.old s (below (λ j. store_of (at + j) 0) n) }
-{
-    if room.len() < 5 {
-        return refused(r, Answer::NoRoom);
-    }
-    let made = changes::store_zeros(image, work, at, n, s);
-    finish(next, handle, image, room, made, answering::needed(n), s)
-}
-
-// Words with a frame's bits added.
-pub fn store_mask(
-    r: Record,
-    next: Numbers,
-    handle: u16,
-    at: usize,
-    n: usize,
-    frame: &[u8],
-    from: usize,
-    work: usize,
-    image: &mut [u8],
-    room: &mut [u8],
-    s: usize,
-) -> Noted
-    requires { Holds work at n (length image.old) × (from < 2 ^ 61) × (n ≤ 16) }
-    ensures { noted result image.new room.new ≡ store_at (numbers_in r) handle next work image.old room.old s (below (or_to image.old frame.now at from) n) }
-{
-    if room.len() < 5 {
-        return refused(r, Answer::NoRoom);
-    }
-    let made = changes::store_mask(image, work, at, n, frame, from, s);
-    finish(next, handle, image, room, made, answering::needed(n), s)
+    let (made, need) = stored(plan, frame, work, image, s);
+    finish(next, handle, image, room, made, need, s)
 }

@@ -6,103 +6,64 @@ ghost use Rattle.replies.specs.Pack.{packed};
 ghost use Rattle.stores.specs.Stores.{change_stores};
 ghost use Rattle.tag.specs.Table.{live_of};
 ghost use Rattle.states.specs.Commands.{is_killed};
-ghost use Rattle.tag.specs.Port.{register_to, bit_of, number_in, with_killed, with_unwritten, bad_count, bad_data, read_bits, port_open, ask_of, release_of, register_of, read_of, write_of};
+ghost use Rattle.tag.specs.Port.{register_to, with_killed, with_unwritten, bad_count, bad_data, read_bits, port_open, ask_of, release_of, register_of, read_of, write_of};
 ghost use Rattle.tag.specs.PortSteps.{after_killed, end_row, read_row, read_room, write_end, Masked, held_to};
+ghost use Rattle.tag.specs.Session.{row_in, Stops};
+ghost use Rattle.tag.specs.Steps.{on_session};
 ghost use Rattle.tag.specs.Result.{first_of, result_of};
 
-use crate::{Answer, Live, Outcome, Power, Register, Session, answering, front, starting};
+use crate::{Answer, Live, Outcome, Register, Session, answering, front, recording, starting};
 use image::Layout;
-use states::State;
+
+// A session under power.
+fn on(l: Live) -> Session
+    ensures { result ≡ on_session l }
+{
+    Session { power: Some(l) }
+}
 
 // The session with its port held or free.
 fn with_held(l: Live, held: bool) -> Session
     ensures { result ≡ held_to l held }
 {
-    let state = l.state;
-    let register = l.register;
-    let flags = l.flags;
-    Session {
-        power: Power::On(Live {
-            state: state,
-            held: held,
-            register: register,
-            flags: flags,
-        }),
-    }
+    on(Live { held, ..l })
 }
 
 // The session with another register.
 fn with_register(l: Live, register: Register) -> Session
     ensures { result ≡ register_to l register }
 {
-    let state = l.state;
-    let flags = l.flags;
-    Session {
-        power: Power::On(Live {
-            state: state,
-            held: l.held,
-            register: register,
-            flags: flags,
-        }),
-    }
+    on(Live { register, ..l })
 }
 
 // With bit 0 set.
 fn with_killed(l: Live) -> Session
     ensures { result ≡ register_to l (with_killed l.register) }
 {
-    let register = l.register;
-    with_register(
-        l,
-        Register {
-            unwritten: register.unwritten,
-            killed: true,
-        },
-    )
+    let register = Register {
+        killed: true,
+        ..l.register
+    };
+    with_register(l, register)
 }
 
 // With bit 1 set where b is.
 fn with_unwritten(l: Live, b: bool) -> Session
     ensures { result ≡ register_to l (with_unwritten b l.register) }
 {
-    let register = l.register;
-    with_register(
-        l,
-        Register {
-            unwritten: bits::either(register.unwritten, b),
-            killed: register.killed,
-        },
-    )
-}
-
-fn bit(b: bool) -> u8
-    ensures { (result ≡ bit_of b) × (result < 2) }
-{
-    if b { 1 } else { 0 }
-}
-
-// The register as a number.
-fn number_in(register: Register) -> usize
-    ensures { result ≡ number_in register }
-{
-    2 * bit(register.unwritten) as usize + bit(register.killed) as usize
+    let register = Register {
+        unwritten: l.register.unwritten || b,
+        ..l.register
+    };
+    with_register(l, register)
 }
 
 // No word, more than 255, or words past USER's end.
 fn bad_count(y: Layout, at: usize, count: usize) -> bool
     ensures { result ≡ bad_count y at count }
 {
-    if count == 0 {
-        return true;
-    }
-    if 255 < count {
-        return true;
-    }
     let words = y.user.words as usize;
-    if words < at {
-        return true;
-    }
-    words < at + count
+    count == 0 || 255 < count || words < at || words < at + count
 }
 
 // Odd data, a bad count, or more words than WORK has pairs.
@@ -110,26 +71,16 @@ fn bad_data(y: Layout, at: usize, words: &[u8]) -> bool
     ensures { result ≡ bad_data y at words.now }
 {
     let n = words.len();
-    if n % 2 != 0 {
-        return true;
-    }
-    if bad_count(y, at, n / 2) {
-        return true;
-    }
-    image::pairs(y) < n / 2
+    n % 2 != 0 || bad_count(y, at, n / 2) || image::pairs(y) < n / 2
 }
 
 // Killed, under power.
 fn is_dead(session: Session) -> bool
     ensures { result ≡ is_killed (live_of session.power).state }
 {
-    let power = session.power;
-    match power {
-        Power::Off => false,
-        Power::On(l) => {
-            let reached = l.state;
-            states::is_killed(reached)
-        }
+    match session.power {
+        None => false,
+        Some(l) => l.state.is_killed(),
     }
 }
 
@@ -137,25 +88,25 @@ fn is_dead(session: Session) -> bool
 fn after_killed(session: Session) -> Session
     ensures { result ≡ after_killed session.power }
 {
-    let power = session.power;
-    let Power::On(l) = power else {
-        return session;
-    };
-    with_killed(l)
+    match session.power {
+        None => session,
+        Some(l) => with_killed(l),
+    }
 }
 
-// The answer of a read that 6 does not stop, as a number.
-fn read_end(image: &[u8], at: usize, count: usize, room: usize) -> u8
+// The answer of a read that 6 does not stop.
+#[tactic(auto, unfolding(crate::specs::PortSteps::end_row))]
+fn read_end(image: &[u8], at: usize, count: usize, room: usize) -> Result<(), Answer>
     requires { 32 ≤ length image.now }
-    ensures { result ≡ end_row (layout_of image.now) at count room }
+    ensures { (row_in result ≡ end_row (layout_of image.now) at count room) × Stops result }
 {
     if bad_count(image::read_layout(image), at, count) {
-        return 13;
+        return Err(Answer::Count);
     }
     if room < 2 * count {
-        return 4;
+        return Err(Answer::NoRoom);
     }
-    0
+    Ok(())
 }
 
 // Words of USER into the room, or zeros when Killed.
@@ -173,34 +124,30 @@ fn show(dead: bool, image: &[u8], at: usize, count: usize, room: &mut [u8])
     replies::put_plain(room, image, user + at, count);
 }
 
-// A read of USER, of a session whose answer by itself is h: the number of the answer; words in the room where it is 0.
-pub fn read_words(h: u8, dead: bool, image: &[u8], at: usize, count: usize, room: &mut [u8]) -> u8
-    ensures { (result ≡ read_row h image.now at count (length room.old)) × (room.new ≡ read_room result dead image.now at count room.old) }
+// A read of USER, of a session whose own answer is h; words in the room where nothing stops it.
+pub fn read_words(
+    h: Result<(), Answer>,
+    dead: bool,
+    image: &[u8],
+    at: usize,
+    count: usize,
+    room: &mut [u8],
+) -> Result<(), Answer>
+    ensures { Stops h → (row_in result ≡ read_row (row_in h) image.now at count (length room.old)) × (room.new ≡ read_room (row_in result) dead image.now at count room.old) × Stops result }
 {
-    let row = front::front(h, image);
-    if row != 0 {
-        return row;
-    }
-    let end = read_end(image, at, count, room.len());
-    if end != 0 {
-        return end;
-    }
+    front::front(h, image)?;
+    read_end(image, at, count, room.len())?;
     show(dead, image, at, count, room);
-    0
+    Ok(())
 }
 
 // No access password and no USER pwd bit: the port may write words of open blocks.
 fn is_open(image: &[u8], y: Layout) -> bool
     ensures { result ≡ port_open y image.now }
 {
-    let at = y.reserved.at as usize + 2;
-    if bits::word(image, at) != 0 {
-        return false;
-    }
-    if bits::word(image, at + 1) != 0 {
-        return false;
-    }
-    rights::pwd_bit(bits::word(image, y.status.at as usize), 4) == 0
+    states::access_word(image, y, 0) == 0
+        && states::access_word(image, y, 1) == 0
+        && rights::pwd_bit(bits::word(image, y.status.at as usize), 4) == 0
 }
 
 // In a mask of zeros, a byte for each of n USER words from word `at` on: 1 where its block is permalocked, asked once for each block. Answers how many are 0.
@@ -218,7 +165,7 @@ fn mark(mask: &mut [u8], image: &[u8], y: Layout, at: usize, n: usize) -> usize
     let mut j: usize = 0;
     while j < n {
         if at + j == next {
-            locked = bit(rights::block_locked(image, y, at + j));
+            locked = recording::bit(rights::block_locked(image, y, at + j));
             next = rights::next_block(y, at + j);
         }
         mask[j] = locked;
@@ -254,8 +201,7 @@ fn store(l: Live, y: Layout, image: &mut [u8], at: usize, words: &[u8], s: usize
     requires words_value { bad_data y at words.now ≡ false }
     ensures { result_of result image.new [] ≡ write_end l y image.old at words.now s }
 {
-    let state = l.state;
-    if states::is_killed(state) {
+    if l.state.is_killed() {
         return answering::done(with_killed(l), 0, 0, 0);
     }
     if !is_open(image, y) {
@@ -266,54 +212,50 @@ fn store(l: Live, y: Layout, image: &mut [u8], at: usize, words: &[u8], s: usize
 
 impl Session {
     // Asks for the port.
+    #[tactic(auto, unfolding(crate::specs::Port::ask_of))]
     pub fn ask(self) -> Outcome
         ensures { result_of result [] [] ≡ first_of (ask_of self) }
     {
-        let power = self.power;
-        let Power::On(l) = power else {
-            return front::unmoved(self, Answer::NotReady);
+        let Some(l) = self.power else {
+            return answering::unmoved(self, Answer::NotReady);
         };
-        if l.held {
-            return front::unmoved(self, Answer::Port);
-        }
-        let state = l.state;
-        if states::is_linked(state) {
-            return front::unmoved(self, Answer::Port);
+        if l.held || l.state.is_linked() {
+            return answering::unmoved(self, Answer::Port);
         }
         answering::done(with_held(l, true), 0, 0, 0)
     }
 
     // Gives the port back.
+    #[tactic(auto, unfolding(crate::specs::Port::release_of))]
     pub fn release(self) -> Outcome
         ensures { result_of result [] [] ≡ first_of (release_of self) }
     {
-        let power = self.power;
-        let Power::On(l) = power else {
-            return front::unmoved(self, Answer::NotReady);
+        let Some(l) = self.power else {
+            return answering::unmoved(self, Answer::NotReady);
         };
         if !l.held {
-            return front::unmoved(self, Answer::Port);
+            return answering::unmoved(self, Answer::Port);
         }
         answering::done(with_held(l, false), 0, 0, 0)
     }
 
     // Reads the register, which clears it.
+    #[tactic(auto, unfolding(crate::specs::Port::register_of))]
     pub fn register(self) -> Outcome
         ensures { result_of result [] [] ≡ first_of (register_of self) }
     {
-        let power = self.power;
-        let Power::On(l) = power else {
-            return front::unmoved(self, Answer::NotReady);
+        let Some(l) = self.power else {
+            return answering::unmoved(self, Answer::NotReady);
         };
         if !l.held {
-            return front::unmoved(self, Answer::Port);
+            return answering::unmoved(self, Answer::Port);
         }
-        let register = l.register;
         let clear = Register {
             unwritten: false,
             killed: false,
         };
-        answering::done(with_register(l, clear), 0, 0, number_in(register))
+        let value = usize::from(recording::register_in(l.register));
+        answering::done(with_register(l, clear), 0, 0, value)
     }
 
     // Reads count words of USER from word `at` on into the room.
@@ -321,31 +263,26 @@ impl Session {
         ensures { result_of result image.now room.new ≡ first_of (read_of self image.now at count room.old) }
     {
         let dead = is_dead(self);
-        let row = read_words(front::held_row(self), dead, image, at, count, room);
-        if row != 0 {
-            return front::unmoved(self, front::answer_of(row));
+        if let Err(answer) = read_words(front::held(self), dead, image, at, count, room) {
+            return answering::unmoved(self, answer);
         }
-        if dead {
-            return answering::done(after_killed(self), 16 * count, 0, 0);
-        }
-        answering::done(self, 16 * count, 0, 0)
+        let session = if dead { after_killed(self) } else { self };
+        answering::done(session, 16 * count, 0, 0)
     }
 
     // Writes words to USER from word `at` on, with power for s stores.
     pub fn write(self, image: &mut [u8], at: usize, words: &[u8], s: usize) -> Outcome
         ensures { result_of result image.new [] ≡ first_of (write_of change_stores self image.old at words.now s) }
     {
-        let row = front::front(front::held_row(self), image);
-        if row != 0 {
-            return front::unmoved(self, front::answer_of(row));
+        if let Err(answer) = front::front(front::held(self), image) {
+            return answering::unmoved(self, answer);
         }
-        let power = self.power;
-        let Power::On(l) = power else {
-            return front::unmoved(self, Answer::NotReady);
+        let Some(l) = self.power else {
+            return answering::unmoved(self, Answer::NotReady);
         };
         let y = image::read_layout(image);
         if bad_data(y, at, words) {
-            return answering::refused(l, Answer::Count);
+            return answering::unmoved(on(l), Answer::Count);
         }
         store(l, y, image, at, words, s)
     }

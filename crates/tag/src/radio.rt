@@ -11,7 +11,7 @@ ghost use Rattle.tag.specs.ByNumber.{noted, Fit, heard_at, outcome_of};
 
 use crate::{Answer, Noted, Outcome, Session, acting, front, inventory, noting, recording};
 use frames::Heard;
-use states::{Record, unpack};
+use states::{Numbers, Record};
 
 // What a frame says to a session that the front lets pass.
 fn hearing(
@@ -56,17 +56,14 @@ pub fn frame(
 ) -> Noted
     ensures { noted result image.new room.new ≡ in_numbers (first_of (frame_of change_stores (record { session = session_of (numbers_in r); image = image.old; frame = frame.now; bits = n; fresh = fresh; room = room.old; power = s }))) }
 {
-    let row = image::ready(image);
+    let ready = front::ready(image);
     if !recording::fits(r) {
-        return noting::refused(
-            recording::off_record(),
-            front::answer_of(front::or_five(row)),
-        );
+        return noting::refused(recording::off_record(), front::or_five(ready));
     }
-    if row != 0 {
-        return noting::refused(r, front::answer_of(row));
+    if let Err(answer) = ready {
+        return noting::refused(r, answer);
     }
-    if unpack(r).held != 0 {
+    if Numbers::from(r).held != 0 {
         return noting::refused(r, Answer::Port);
     }
     hearing(r, image, frame, n, fresh, room, s)
@@ -76,9 +73,8 @@ pub fn frame(
 fn outcome(o: Noted) -> Outcome
     ensures { result ≡ outcome_of o }
 {
-    let answer = o.answer;
     Outcome {
-        answer: answer,
+        answer: o.answer,
         session: recording::session_of(o.session),
         reply: o.reply,
         stores: o.stores,

@@ -1,69 +1,52 @@
 // A session as its record of two numbers, and back (RULES 10.1 to 10.3).
-ghost use Rattle.std.specs.Prelude.{◌≡◌, cond, ◌≤◌};
+ghost use Rattle.std.specs.Prelude.{◌≡◌, ◌<◌};
 ghost use Rattle.states.specs.Numbers.{numbers_in, covered_in, cover_in, half_in, upper_in, flags_in};
-ghost use Rattle.tag.specs.Port.{number_in};
-ghost use Rattle.tag.specs.Records.{numbers_on, numbers_of, cover_of, half_of, link_from, flags_from, register_from, on_of, session_of};
-ghost use Rattle.tag.specs.RecordSteps.{off_record, linked_state, bare_state, state_from, near_of, no_state, too_large, numbers_fit, idle_fits, bare_fits, state_fits, fits_of};
+ghost use Rattle.tag.specs.Port.{bit_of, number_in};
+ghost use Rattle.tag.specs.Records.{numbers_on, numbers_of, cover_of, half_of, link_from, is_one, flags_from, register_from, on_of, session_of};
+ghost use Rattle.tag.specs.RecordSteps.{off_record, state_from, near_of, no_state, too_large, numbers_fit, idle_fits, bare_fits, state_fits, fits_of};
 
-use crate::{Live, Power, Register, Session};
-use bits::either;
+use crate::{Live, Register, Session};
 use frames::Round;
-use states::{Cover, Flags, Half, Link, Numbers, Record, State};
+use states::{Flags, Half, Link, Numbers, Record, State};
 
-// What a truth value adds to a number.
-fn share(b: bool, w: u8) -> u8
-    ensures { (result ≡ cond b w 0) × (result ≤ w) }
+// A truth value as a number.
+pub fn bit(b: bool) -> u8
+    ensures { (result ≡ bit_of b) × (result < 2) }
 {
-    if b { w } else { 0 }
+    u8::from(b)
 }
 
 fn flags_in(f: Flags) -> u8
     ensures { result ≡ flags_in f }
 {
-    share(f.s0, 1) + share(f.s1, 2) + share(f.s2, 4) + share(f.s3, 8) + share(f.sl, 16)
+    bit(f.s0) + 2 * bit(f.s1) + 4 * bit(f.s2) + 8 * bit(f.s3) + 16 * bit(f.sl)
 }
 
-fn register_in(g: Register) -> u8
+// The register as a number.
+pub fn register_in(g: Register) -> u8
     ensures { result ≡ number_in g }
 {
-    2 * share(g.unwritten, 1) + share(g.killed, 1)
+    2 * bit(g.unwritten) + bit(g.killed)
 }
 
-fn covered_in(c: Cover) -> u8
-    ensures { result ≡ covered_in c }
+// Whether there is a cover number, and its value.
+fn cover_in(c: Option<u16>) -> (u8, u16)
+    ensures { result ≡ (covered_in c, cover_in c) }
 {
     match c {
-        Cover::Nothing => 0,
-        Cover::Number(_) => 1,
+        None => (0, 0),
+        Some(n) => (1, n),
     }
 }
 
-fn cover_in(c: Cover) -> u16
-    ensures { result ≡ cover_in c }
-{
-    match c {
-        Cover::Nothing => 0,
-        Cover::Number(n) => n,
-    }
-}
-
-fn half_in(h: Half) -> u8
-    ensures { result ≡ half_in h }
+// Whose half waits, if one does, and its value.
+fn half_in(h: Option<Half>) -> (u8, u16)
+    ensures { result ≡ (half_in h, upper_in h) }
 {
     match h {
-        Half::Nothing => 0,
-        Half::Access(_) => 1,
-        Half::Kill(_) => 2,
-    }
-}
-
-fn upper_in(h: Half) -> u16
-    ensures { result ≡ upper_in h }
-{
-    match h {
-        Half::Nothing => 0,
-        Half::Access(u) => u,
-        Half::Kill(u) => u,
+        None => (0, 0),
+        Some(Half::Access(u)) => (1, u),
+        Some(Half::Kill(u)) => (2, u),
     }
 }
 
@@ -71,26 +54,22 @@ fn upper_in(h: Half) -> u16
 fn numbers_on(l: Live) -> Numbers
     ensures { result ≡ numbers_on l }
 {
-    let state = l.state;
-    let register = l.register;
-    let flags = l.flags;
-    let k = states::link_of(state);
-    let round = k.round;
-    let cover = k.cover;
-    let half = k.half;
+    let k = l.state.link();
+    let (covered, cover) = cover_in(k.cover);
+    let (half, upper) = half_in(k.half);
     Numbers {
-        state: states::state_number(state),
-        held: share(l.held, 1),
-        reg: register_in(register),
-        covered: covered_in(cover),
-        half: half_in(half),
-        round: round.session,
-        q: round.q,
-        flags: flags_in(flags),
+        state: l.state.number(),
+        held: bit(l.held),
+        reg: register_in(l.register),
+        covered,
+        half,
+        round: k.round.session,
+        q: k.round.q,
+        flags: flags_in(l.flags),
         number: k.handle,
-        cover: cover_in(cover),
-        upper: upper_in(half),
-        slot: states::slot_of(state),
+        cover,
+        upper,
+        slot: l.state.slot(),
     }
 }
 
@@ -105,32 +84,26 @@ pub fn off_record() -> Record
 pub fn record_of(s: Session) -> Record
     ensures { numbers_in result ≡ numbers_of s.power }
 {
-    let power = s.power;
-    let Power::On(l) = power else {
-        return off_record();
-    };
-    states::pack(numbers_on(l))
+    match s.power {
+        None => off_record(),
+        Some(l) => Record::from(numbers_on(l)),
+    }
 }
 
-fn cover(covered: u8, number: u16) -> Cover
+fn cover(covered: u8, number: u16) -> Option<u16>
     ensures { result ≡ cover_of covered number }
 {
-    if covered == 0 {
-        return Cover::Nothing;
-    }
-    Cover::Number(number)
+    if covered == 0 { None } else { Some(number) }
 }
 
-fn half(kind: u8, upper: u16) -> Half
+fn half(kind: u8, upper: u16) -> Option<Half>
     ensures { result ≡ half_of kind upper }
 {
-    if kind == 0 {
-        return Half::Nothing;
+    match kind {
+        0 => None,
+        1 => Some(Half::Access(upper)),
+        _ => Some(Half::Kill(upper)),
     }
-    if kind == 1 {
-        return Half::Access(upper);
-    }
-    Half::Kill(upper)
 }
 
 fn link(v: Numbers) -> Link
@@ -147,15 +120,23 @@ fn link(v: Numbers) -> Link
     }
 }
 
+// Bit i of a number.
+fn is_one(n: u8, i: u8) -> bool
+    requires { i < 8 }
+    ensures { result ≡ is_one n i }
+{
+    (n >> i) % 2 == 1
+}
+
 fn flags(n: u8) -> Flags
     ensures { result ≡ flags_from n }
 {
     Flags {
-        s0: n / 1 % 2 == 1,
-        s1: n / 2 % 2 == 1,
-        s2: n / 4 % 2 == 1,
-        s3: n / 8 % 2 == 1,
-        sl: n / 16 % 2 == 1,
+        s0: is_one(n, 0),
+        s1: is_one(n, 1),
+        s2: is_one(n, 2),
+        s3: is_one(n, 3),
+        sl: is_one(n, 4),
     }
 }
 
@@ -163,8 +144,8 @@ fn register(n: u8) -> Register
     ensures { result ≡ register_from n }
 {
     Register {
-        unwritten: n / 2 % 2 == 1,
-        killed: n / 1 % 2 == 1,
+        unwritten: is_one(n, 1),
+        killed: is_one(n, 0),
     }
 }
 
@@ -173,55 +154,33 @@ fn live(v: Numbers, state: State) -> Session
     ensures { result ≡ on_of v state }
 {
     Session {
-        power: Power::On(Live {
+        power: Some(Live {
             held: v.held != 0,
             register: register(v.reg),
             flags: flags(v.flags),
-            state: state,
+            state,
         }),
     }
 }
 
-// Open or Secured.
-fn linked_state(state: u8, k: Link) -> State
-    ensures { result ≡ linked_state state k }
-{
-    if state == 5 {
-        return State::Open(k);
-    }
-    State::Secured(k)
-}
-
-// A state without a cover.
-fn bare_state(state: u8, round: Round, number: u16, slot: u16) -> State
-    ensures { result ≡ bare_state state round number slot }
-{
-    if state == 2 {
-        return State::Arbitrate(round, slot);
-    }
-    if state == 3 {
-        return State::Reply(round, number);
-    }
-    if state == 4 {
-        return State::Acknowledged(round, number);
-    }
-    if state == 1 {
-        return State::Ready;
-    }
-    State::Killed
-}
-
 // The state of numbers that have one.
+#[tactic(auto, unfolding(crate::specs::RecordSteps::state_from))]
 fn state_of(v: Numbers, k: Link) -> State
     ensures { result ≡ state_from v k }
 {
-    if either(v.state == 5, v.state == 6) {
-        return linked_state(v.state, k);
+    match v.state {
+        1 => State::Ready,
+        2 => State::Arbitrate(k.round, v.slot),
+        3 => State::Reply(k.round, v.number),
+        4 => State::Acknowledged(k.round, v.number),
+        5 => State::Open(k),
+        6 => State::Secured(k),
+        _ => State::Killed,
     }
-    bare_state(v.state, k.round, v.number, v.slot)
 }
 
 // The session under power that the numbers come nearest to.
+#[tactic(auto, unfolding(crate::specs::RecordSteps::near_of))]
 fn near(v: Numbers) -> Session
     ensures { result ≡ near_of v }
 {
@@ -229,91 +188,74 @@ fn near(v: Numbers) -> Session
 }
 
 // A cover number and an upper half are 0 where there is none, and the half is one of three.
+#[tactic(auto, unfolding(crate::specs::RecordSteps::numbers_fit))]
 fn numbers_fit(v: Numbers) -> bool
     ensures { result ≡ numbers_fit v }
 {
-    if v.covered == 0 {
-        if v.cover != 0 {
-            return false;
+    (v.covered != 0 || v.cover == 0)
+        && if v.half == 0 {
+            v.upper == 0
+        } else {
+            v.half <= 2
         }
-    }
-    if v.half == 0 {
-        return v.upper == 0;
-    }
-    v.half <= 2
 }
 
 // No number, cover, half or slot, and no round.
+#[tactic(auto, unfolding(crate::specs::RecordSteps::idle_fits))]
 fn idle_fits(r: Record) -> bool
     ensures { result ≡ idle_fits r }
 {
-    if r.high != 0 {
-        return false;
-    }
-    r.low / 0x100_0000_0000 % 0x1_0000 == 0
+    r.high == 0 && r.low / 0x100_0000_0000 % 0x1_0000 == 0
 }
 
 // A state without a cover holds only what belongs to it: no cover and no half, then by the state.
+#[tactic(auto, unfolding(crate::specs::RecordSteps::bare_fits))]
 fn bare_fits(r: Record, v: Numbers) -> bool
     ensures { result ≡ bare_fits r v }
 {
-    if r.low / 0x100_0000 % 0x1_0000 != 0 {
-        return false;
-    }
-    if v.state == 2 {
-        return r.high % 0x1_0000_0000_0000 == 0;
-    }
-    if either(v.state == 3, v.state == 4) {
-        return r.high < 0x1_0000;
-    }
-    idle_fits(r)
+    r.low / 0x100_0000 % 0x1_0000 == 0
+        && match v.state {
+            2 => r.high % 0x1_0000_0000_0000 == 0,
+            3 | 4 => r.high < 0x1_0000,
+            _ => idle_fits(r),
+        }
 }
 
 // No state under power has this number.
 fn no_state(v: Numbers) -> bool
     ensures { result ≡ no_state v }
 {
-    either(v.state == 0, 7 < v.state)
+    v.state == 0 || 7 < v.state
 }
 
 // Port, register, cover or flags past their bits, which are asked of the whole number at once.
 fn too_large(r: Record) -> bool
     ensures { result ≡ too_large (numbers_in r) }
 {
-    either(
-        either(r.low / 0x200 % 0x80 != 0, r.low / 0x4_0000 % 0x40 != 0),
-        either(
-            r.low / 0x200_0000 % 0x80 != 0,
-            r.low / 0x2000_0000_0000_0000 != 0,
-        ),
-    )
+    r.low / 0x200 % 0x80 != 0
+        || r.low / 0x4_0000 % 0x40 != 0
+        || r.low / 0x200_0000 % 0x80 != 0
+        || r.low / 0x2000_0000_0000_0000 != 0
 }
 
 // A state holds only what belongs to it.
+#[tactic(auto, unfolding(crate::specs::RecordSteps::state_fits))]
 fn state_fits(r: Record, v: Numbers) -> bool
     ensures { result ≡ state_fits r v }
 {
-    if either(v.state == 5, v.state == 6) {
-        if v.slot != 0 {
-            return false;
-        }
-        return numbers_fit(v);
+    match v.state {
+        5 | 6 => v.slot == 0 && numbers_fit(v),
+        _ => bare_fits(r, v),
     }
-    bare_fits(r, v)
 }
 
 // The record is that of a session under power.
+#[tactic(auto, unfolding(crate::specs::RecordSteps::fits_of))]
 pub fn fits(r: Record) -> bool
     ensures { result ≡ fits_of r }
 {
-    let v = states::unpack(r);
-    if no_state(v) {
-        return false;
-    }
-    if too_large(r) {
-        return false;
-    }
-    state_fits(r, v)
+    let v = Numbers::from(r);
+    !no_state(v) && !too_large(r) && state_fits(r, v)
 }
 
 // The session of a record: Off where the record is no session's under power.
@@ -321,7 +263,8 @@ pub fn session_of(r: Record) -> Session
     ensures { result ≡ session_of (numbers_in r) }
 {
     if fits(r) {
-        return near(states::unpack(r));
+        near(Numbers::from(r))
+    } else {
+        Session { power: None }
     }
-    Session { power: Power::Off }
 }

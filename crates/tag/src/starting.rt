@@ -7,14 +7,14 @@ ghost use Rattle.tag.specs.Power.{power_up_of};
 ghost use Rattle.tag.specs.Steps.{stopped_at, started, first_in};
 ghost use Rattle.tag.specs.Result.{first_of, result_of};
 
-use crate::{Answer, Live, Outcome, Power, Register, Session};
+use crate::{Answer, Live, Outcome, Register, Session, answering, front};
 use image::Layout;
 use states::{Flags, State};
 
 pub fn off() -> Session
     ensures { result ≡ off_session }
 {
-    Session { power: Power::Off }
+    Session { power: None }
 }
 
 // A new session under power.
@@ -22,8 +22,8 @@ fn fresh(state: State) -> Session
     ensures { result ≡ new_session state }
 {
     Session {
-        power: Power::On(Live {
-            state: state,
+        power: Some(Live {
+            state,
             held: false,
             register: Register {
                 unwritten: false,
@@ -45,11 +45,8 @@ pub fn stopped(answer: Answer, stores: usize) -> Outcome
     ensures { result ≡ stopped_at answer stores }
 {
     Outcome {
-        answer: answer,
-        session: off(),
-        reply: 0,
-        stores: stores,
-        value: 0,
+        stores,
+        ..answering::unmoved(off(), answer)
     }
 }
 
@@ -58,23 +55,19 @@ fn needed_up(image: &[u8], y: Layout) -> usize
     ensures { result ≡ length (power_stores y image.now) }
 {
     let c = bits::word(image, y.work.at as usize) as usize;
-    if c == 0 {
-        return 1;
-    }
-    c + 2
+    if c == 0 { 1 } else { c + 2 }
 }
 
 // The first session of an image.
 fn first_session(image: &[u8], y: Layout) -> Session
     ensures { result ≡ new_session (first_in y image.now) }
 {
-    if bits::word(image, y.status.at as usize + 1) == 0 {
-        return fresh(State::Ready);
-    }
-    fresh(State::Killed)
+    let killed = bits::word(image, y.status.at as usize + 1) != 0;
+    fresh(if killed { State::Killed } else { State::Ready })
 }
 
 // Power-up of a good image.
+#[tactic(auto, unfolding(crate::specs::Steps::started))]
 fn start(image: &mut [u8], y: Layout, s: usize) -> Outcome
     requires { Good y image.old }
     ensures { result_of result image.new [] ≡ started y image.old s }
@@ -84,23 +77,15 @@ fn start(image: &mut [u8], y: Layout, s: usize) -> Outcome
     if s < n {
         return stopped(Answer::PowerLost, made);
     }
-    Outcome {
-        answer: Answer::Done,
-        session: first_session(image, y),
-        reply: 0,
-        stores: made,
-        value: 0,
-    }
+    answering::done(first_session(image, y), 0, made, 0)
 }
 
 // Power-up, for any bytes and any power.
 pub fn power_up(image: &mut [u8], s: usize) -> Outcome
     ensures { result_of result image.new [] ≡ first_of (power_up_of image.old s) }
 {
-    match image::ready(image) {
-        1 => stopped(Answer::Short, 0),
-        2 => stopped(Answer::Header, 0),
-        3 => stopped(Answer::Content, 0),
-        _ => start(image, image::read_layout(image), s),
+    if let Err(answer) = front::checked(image) {
+        return stopped(answer, 0);
     }
+    start(image, image::read_layout(image), s)
 }

@@ -1,4 +1,5 @@
 -- What a tag answers to a frame that a depot made is read as what the tag meant. Assumes nothing.
+use Rattle.std.specs.Prelude.{Option, None, Some}
 use Prim.Native.Nat.{ℕ, ◌+◌, ◌-◌, ◌*◌, ◌/◌, ◌≤◌, ◌<◌}
 use mathlib.Core.Path.{◌≡◌, refl, sym, ap, ◌∙◌}
 use mathlib.Core.Logic.{◌⊎◌, inl, inr}
@@ -177,18 +178,18 @@ module _ (c : Call) (into : List ℕ) (h : Hearing) (e : (made c into).number �
   reply_to o = reply_or (effect_of (scene i) o).code (link_of st).handle (effect_of (scene i) o).reply
 
   module _ (g : Good (layout_of h.image) h.image) where
-    half-kill : (w : ℕ) (x : Half) → (link_of st).handle ≡ c.number
+    half-kill : (w : ℕ) (x : Option Half) → (link_of st).handle ≡ c.number
         → Replies m c.number await.Half (reply_or (half_kill (scene i) w x).code (link_of st).handle (half_kill (scene i) w x).reply)
-    half-kill w half.Nothing z =
+    half-kill w None z =
         coded m c.number await.Half (cond (zero_kill y m) (code.Error fault.Other) code.Nothing) (link_of st).handle (reply.Number (link_of st).handle) z answers.half-error (λ k. rw z answers.first-half)
-    half-kill w (half.Kill up) z = rw z answers.second-half
-    half-kill w (half.Access up) z = rw z answers.first-half
+    half-kill w (Some (half.Kill up)) z = rw z answers.second-half
+    half-kill w (Some (half.Access up)) z = rw z answers.first-half
 
-    half-access : (w : ℕ) (x : Half) → (link_of st).handle ≡ c.number
+    half-access : (w : ℕ) (x : Option Half) → (link_of st).handle ≡ c.number
         → Replies m c.number await.Handle (reply_or (half_access (scene i) w x).code (link_of st).handle (half_access (scene i) w x).reply)
-    half-access w half.Nothing z = rw z answers.handle
-    half-access w (half.Kill up) z = rw z answers.handle
-    half-access w (half.Access up) z = rw z answers.handle
+    half-access w None z = rw z answers.handle
+    half-access w (Some (half.Kill up)) z = rw z answers.handle
+    half-access w (Some (half.Access up)) z = rw z answers.handle
 
     -- what stops a command does not stop this one: a command to one tag carries its number
     abbrev Passes : Command → Type 0

@@ -1,6 +1,6 @@
 -- THE TALK of a depot and a tag (RULES 12.6 and 12.7): a frame that the depot made, at a tag; and what the tag answers, at the depot. Proofs:
 -- `talks` in proofs/Talks. Assumes nothing.
-use Rattle.std.specs.Prelude.{ℕ, ◌+◌, ◌-◌, ◌*◌, ◌/◌, ◌≤◌, ◌<◌, ◌≡◌, ◌≢◌, ◌⊎◌, Bool, true, false, cond, ◌||◌, List, [], ◌∷◌, eqb, length}
+use Rattle.std.specs.Prelude.{ℕ, ◌+◌, ◌-◌, ◌*◌, ◌/◌, ◌≤◌, ◌<◌, ◌≡◌, ◌≢◌, ◌⊎◌, Bool, true, false, cond, ◌||◌, List, [], ◌∷◌, eqb, length, Option, None, Some}
 use Rattle.std.specs.Int.Bits.{bit_or}
 use Rattle.bits.specs.Words.{word_at, store, Bytes}
 use Rattle.bits.specs.Bits.{bits_from, words_bits}
@@ -11,8 +11,6 @@ use Rattle.replies.specs.declared.Reply.{Reply}
 use Rattle.replies.specs.declared.Reply.TheVariants as reply
 use Rattle.image.specs.Content.{lock_word}
 use Rattle.rights.specs.Rights.{bank_of, locked_to}
-use Rattle.states.specs.declared.Cover.{Cover}
-use Rattle.states.specs.declared.Cover.TheVariants as cover
 use Rattle.states.specs.declared.Half.TheVariants as half
 use Rattle.states.specs.declared.State.{State}
 use Rattle.states.specs.declared.State.TheVariants as state
@@ -77,11 +75,11 @@ module _ (A : Program) (y : Layout) (s : Sending) (r : Aside) (q : Round) where
         → Turns A y (air_of s (call_of s o w)) r q (carried o s.number) (order_of o (length s.payload) s.number s.cover) st f e
         → Sends o w st (flagged r f) e
     -- Read shows its words; BlockErase stores as many zeros
-    pub read : (secured : Bool) (k : Cover) (p : Place) (n j : ℕ) → Readable y s.image secured p.bank p.pointer n j
-        → Sends (command.Read p n) tt (linked secured (link q s.number k half.Nothing)) r
+    pub read : (secured : Bool) (k : Option ℕ) (p : Place) (n j : ℕ) → Readable y s.image secured p.bank p.pointer n j
+        → Sends (command.Read p n) tt (linked secured (link q s.number k None)) r
         (record { state = linked secured (plain_link q s.number); reply = reply.Words ((bank_of y p.bank).at + p.pointer) j s.number; words = [] })
-    pub block_erase : (secured : Bool) (k : Cover) (p : Place) (n : ℕ) → Writable y s.image secured p.bank p.pointer n 0
-        → Sends (command.BlockErase p n) tt (linked secured (link q s.number k half.Nothing)) r
+    pub block_erase : (secured : Bool) (k : Option ℕ) (p : Place) (n : ℕ) → Writable y s.image secured p.bank p.pointer n 0
+        → Sends (command.BlockErase p n) tt (linked secured (link q s.number k None)) r
         (record {
           state = linked secured (plain_link q s.number);
           reply = reply.Success s.number;
@@ -89,7 +87,7 @@ module _ (A : Program) (y : Layout) (s : Sending) (r : Aside) (q : Round) where
         })
     -- Write stores its word
     pub write : (secured : Bool) (p : Place) (w : ℕ) (b : w < 65536) → Writable y s.image secured p.bank p.pointer 1 w
-        → Sends (command.Write p w) b (linked secured (link q s.number (cover.Number s.cover) half.Nothing)) r
+        → Sends (command.Write p w) b (linked secured (link q s.number (Some s.cover) None)) r
         (record {
           state = linked secured (plain_link q s.number);
           reply = reply.Success s.number;
@@ -97,41 +95,41 @@ module _ (A : Program) (y : Layout) (s : Sending) (r : Aside) (q : Round) where
         })
     -- a first half waits as it is; the second is compared as it is
     pub kill_first : (secured : Bool) (w : ℕ) (b : w < 65536) → (kill_word y s.image 0 ≢ 0) ⊎ (kill_word y s.image 1 ≢ 0)
-        → Sends (command.Kill w) b (linked secured (link q s.number (cover.Number s.cover) half.Nothing)) r
-        (record { state = linked secured (link q s.number cover.Nothing (half.Kill w)); reply = reply.Number s.number; words = [] })
+        → Sends (command.Kill w) b (linked secured (link q s.number (Some s.cover) None)) r
+        (record { state = linked secured (link q s.number None (Some (half.Kill w))); reply = reply.Number s.number; words = [] })
     pub kill_second : (secured : Bool) (w up : ℕ) (b : w < 65536) → up ≡ kill_word y s.image 0 → w ≡ kill_word y s.image 1
-        → Sends (command.Kill w) b (linked secured (link q s.number (cover.Number s.cover) (half.Kill up))) r
+        → Sends (command.Kill w) b (linked secured (link q s.number (Some s.cover) (Some (half.Kill up)))) r
         (record { state = state.Killed; reply = reply.Success s.number; words = store (y.status.at + 1) 1 ∷ [] })
     pub access-first : (secured : Bool) (w : ℕ) (b : w < 65536)
-        → Sends (command.Access w) b (linked secured (link q s.number (cover.Number s.cover) half.Nothing)) r
-        (record { state = linked secured (link q s.number cover.Nothing (half.Access w)); reply = reply.Number s.number; words = [] })
+        → Sends (command.Access w) b (linked secured (link q s.number (Some s.cover) None)) r
+        (record { state = linked secured (link q s.number None (Some (half.Access w))); reply = reply.Number s.number; words = [] })
     pub access-second : (secured : Bool) (w up : ℕ) (b : w < 65536) → up ≡ access_word y s.image 0 → w ≡ access_word y s.image 1
-        → Sends (command.Access w) b (linked secured (link q s.number (cover.Number s.cover) (half.Access up))) r
+        → Sends (command.Access w) b (linked secured (link q s.number (Some s.cover) (Some (half.Access up)))) r
         (record { state = state.Secured (plain_link q s.number); reply = reply.Number s.number; words = [] })
     -- Lock masks and sets
-    pub lock : (k : Cover) (mask action : ℕ) → Lockable y s.image mask action
-        → Sends (command.Lock mask action) tt (state.Secured (link q s.number k half.Nothing)) r
+    pub lock : (k : Option ℕ) (mask action : ℕ) → Lockable y s.image mask action
+        → Sends (command.Lock mask action) tt (state.Secured (link q s.number k None)) r
         (record {
           state = state.Secured (plain_link q s.number);
           reply = reply.Success s.number;
           words = store y.status.at (locked_to (lock_word y s.image) mask action) ∷ [];
         })
     -- BlockWrite stores the payload's words
-    pub block_write : (secured : Bool) (k : Cover) (p : Place)
+    pub block_write : (secured : Bool) (k : Option ℕ) (p : Place)
         → Writable y s.image secured p.bank p.pointer (length s.payload / 2) (word_at s.payload (1 - p.pointer))
-        → Sends (command.BlockWrite p) tt (linked secured (link q s.number k half.Nothing)) r
+        → Sends (command.BlockWrite p) tt (linked secured (link q s.number k None)) r
         (record {
           state = linked secured (plain_link q s.number);
           reply = reply.Success s.number;
           words = below (λ j. store ((bank_of y p.bank).at + p.pointer + j) (word_at s.payload j)) (length s.payload / 2);
         })
     -- BlockPermalock shows PERMA words, or adds the bits of the payload
-    pub permalock_read : (k : Cover) (p : Place) (n : ℕ) → p.bank ≡ 3 → p.pointer + n ≤ y.perma.words
-        → Sends (command.ReadPermalock p n) tt (state.Secured (link q s.number k half.Nothing)) r
+    pub permalock_read : (k : Option ℕ) (p : Place) (n : ℕ) → p.bank ≡ 3 → p.pointer + n ≤ y.perma.words
+        → Sends (command.ReadPermalock p n) tt (state.Secured (link q s.number k None)) r
         (record { state = state.Secured (plain_link q s.number); reply = reply.Words (y.perma.at + p.pointer) n s.number; words = [] })
-    pub permalock : (k : Cover) (p : Place) → p.bank ≡ 3
+    pub permalock : (k : Option ℕ) (p : Place) → p.bank ≡ 3
         → PermaLockable y s.image p.pointer (length s.payload / 2) s.payload 0
-        → Sends (command.Permalock p) tt (state.Secured (link q s.number k half.Nothing)) r
+        → Sends (command.Permalock p) tt (state.Secured (link q s.number k None)) r
         (record {
           state = state.Secured (plain_link q s.number);
           reply = reply.Success s.number;

@@ -1,6 +1,6 @@
 -- A talk computed on the worked image: frames that a depot makes, what the tag answers, and what the depot reads (RULES 12.6 and 12.7).
 -- Assumes nothing.
-use Rattle.std.specs.Prelude.{ℕ, ◌≡◌, refl, false, [], replicate}
+use Rattle.std.specs.Prelude.{ℕ, ◌≡◌, refl, false, [], replicate, None, Some}
 use Rattle.bits.specs.Words.{word_at, with_word}
 use Rattle.bits.specs.Bits.{field_at, bits_of, words_bits}
 use Rattle.crc.specs.Crc.{crc_of}
@@ -12,7 +12,6 @@ use Rattle.frames.specs.Frames.{heard_of, checksum_right}
 use Rattle.replies.specs.Replies.{checked}
 use Rattle.replies.specs.Pack.{filled, packed}
 use Rattle.rights.specs.Rights.{read_code, write_code}
-use Rattle.states.specs.declared.Cover.TheVariants as cover
 use Rattle.states.specs.declared.Half.TheVariants as half
 use Rattle.states.specs.declared.State.TheVariants as state
 use Rattle.tag.specs.declared.Session.{Session}
@@ -32,7 +31,7 @@ use Rattle.depot.specs.Reading.{read_of}
 -- a tag in Secured with the handle BEEFh and the cover number 5A5Ah
 abbrev session : Session
 session =
-    on new_flags (state.Secured (link (record { session = 0; q = 0 }) 0xBEEF (cover.Number 0x5A5A) half.Nothing)) false clear
+    on new_flags (state.Secured (link (record { session = 0; q = 0 }) 0xBEEF (Some 0x5A5A) None)) false clear
 
 abbrev user : ℕ → Place
 user p = record { bank = 3; pointer = p }

@@ -30,5 +30,5 @@ pub returns-in_default : goal.returns-in_default
 returns-in_default c =
     let m = c.args.image.now in
     let r = c.in_default.in_default-own.rest in
-    rw (c.laid_out.ensures, c.read_layout.ensures)
+    rw (c.from.ensures, c.read_layout.ensures)
     (ap sheet_of (row-good m (ready-left m c.ready.ensures r.0.0.1 r.0.1 r.1)))

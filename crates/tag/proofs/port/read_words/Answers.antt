@@ -1,24 +1,40 @@
 -- `tag::port::read_words` meets its contract: the front, then 13 and 4, then the words. Assumes nothing.
-use mathlib.Core.Path.{refl, sym, ◌∙◌}
+use mathlib.Core.Path.{◌≡◌, refl, sym, ap, ◌∙◌}
 use native.Mathlib.Omega.{arith}
 use lib.ListN.{length}
+use Rattle.std.proofs.Common.{rules}
 use Rattle.image.specs.Layout.{layout_of}
 use Rattle.image.proofs.Answers.{ready-zero, row-0}
+use Rattle.tag.specs.Session.{row_in}
+use Rattle.tag.proofs.Fronts.{err-stops}
 use Rattle.tag.proofs.Ports.{row-front, row-end, ready-front, room-kept, room-shown, end-zero}
 use Rattle.tag.proofs.port.read_words.Goals as goal
 
-pub returns-then-row-ne0 : goal.returns-then-row-ne0
-returns-then-row-ne0 c = let a = c.args in let m = a.image.now in (row-front a.h m a.at a.count (length a.room.now) c.front-row.ensures c.if-row-ne0.true, room-kept a.dead m a.at a.count a.room.now c.if-row-ne0.true)
+pub returns-in_err-front : goal.returns-in_err-front
+returns-in_err-front c = λ s. let a = c.args in let m = a.image.now in
+    let q : c.from_residual.result ≡ c.front.result = search rules in
+    let z = err-stops c.in_err-front.was (c.front.ensures.1 s) in
+    rw q (row-front (row_in a.h) m a.at a.count (length a.room.now) c.front.ensures.0 z, room-kept a.dead m a.at a.count a.room.now z, c.front.ensures.1 s)
 
-pub read_end-end-requires : goal.read_end-end-requires
-read_end-end-requires c = let a = c.args in let m = a.image.now in let h = (row-0 m (ready-zero m (ready-front a.h m a.at a.count (length a.room.now) (sym c.front-row.ensures ∙ c.if-row-ne0.false))).0).header in omega arith
+pub read_end-requires : goal.read_end-requires
+read_end-requires c = let a = c.args in let m = a.image.now in
+    let f = sym c.front.ensures.0 ∙ ap row_in c.in_ok-front.was in
+    let h = (row-0 m (ready-zero m (ready-front (row_in a.h) m a.at a.count (length a.room.now) f)).0).header in omega arith
 
-pub returns-then-end-ne0 : goal.returns-then-end-ne0
-returns-then-end-ne0 c = let a = c.args in let m = a.image.now in (c.read_end-end.ensures ∙ row-end a.h m a.at a.count (length a.room.now) (sym c.front-row.ensures ∙ c.if-row-ne0.false), room-kept a.dead m a.at a.count a.room.now c.if-end-ne0.true)
+pub returns-in_err-read_end : goal.returns-in_err-read_end
+returns-in_err-read_end c = λ s. let a = c.args in let m = a.image.now in
+    let q : c.from_residual-in_err-read_end.result ≡ c.read_end.result = search rules in
+    let f = sym c.front.ensures.0 ∙ ap row_in c.in_ok-front.was in
+    let z = err-stops c.in_err-read_end.was c.read_end.ensures.1 in
+    rw q (c.read_end.ensures.0 ∙ row-end (row_in a.h) m a.at a.count (length a.room.now) f, room-kept a.dead m a.at a.count a.room.now z, c.read_end.ensures.1)
 
 pub show-requires : goal.show-requires
-show-requires c = let a = c.args in let m = a.image.now in let e = end-zero (layout_of m) a.at a.count (length a.room.now) (sym c.read_end-end.ensures ∙ c.if-end-ne0.false) in
-    record { good = row-0 m (ready-zero m (ready-front a.h m a.at a.count (length a.room.now) (sym c.front-row.ensures ∙ c.if-row-ne0.false))).0; count_value = e.0; count_in_bounds = e.1 }
+show-requires c = let a = c.args in let m = a.image.now in
+    let f = sym c.front.ensures.0 ∙ ap row_in c.in_ok-front.was in
+    let e = end-zero (layout_of m) a.at a.count (length a.room.now) (sym c.read_end.ensures.0 ∙ ap row_in c.in_ok-read_end.was) in
+    record { good = row-0 m (ready-zero m (ready-front (row_in a.h) m a.at a.count (length a.room.now) f)).0; count_value = e.0; count_in_bounds = e.1 }
 
 pub returns : goal.returns
-returns c = let a = c.args in let m = a.image.now in (sym c.if-end-ne0.false ∙ c.read_end-end.ensures ∙ row-end a.h m a.at a.count (length a.room.now) (sym c.front-row.ensures ∙ c.if-row-ne0.false), c.show.ensures ∙ sym (room-shown a.dead m a.at a.count a.room.now refl))
+returns c = λ s. let a = c.args in let m = a.image.now in
+    let f = sym c.front.ensures.0 ∙ ap row_in c.in_ok-front.was in
+    (sym (ap row_in c.in_ok-read_end.was) ∙ c.read_end.ensures.0 ∙ row-end (row_in a.h) m a.at a.count (length a.room.now) f, c.show.ensures ∙ sym (room-shown a.dead m a.at a.count a.room.now refl), tt)

@@ -1,50 +1,42 @@
 -- `tag::radio::frame` meets its contract: stopped by the front, or heard. Assumes nothing.
-use Prim.Native.Nat.{ℕ}
-use mathlib.Core.Path.{◌≡◌, sym, ap, ◌∙◌}
+use mathlib.Core.Path.{◌≡◌, sym, ap, ◌∙◌, subst}
 use mathlib.Core.Bool.{true, false}
 use borrow.Author.Tests.{not-true, not-false}
 use Rattle.states.specs.declared.Numbers.{Numbers}
-use Rattle.states.specs.Numbers.{numbers_in}
-use Rattle.tag.specs.Records.{blank}
+use Rattle.tag.specs.Session.{row_in, Stops}
 use Rattle.tag.specs.RecordSteps.{fits_of}
-use Rattle.tag.specs.Steps.{stays, front_by}
-use Rattle.tag.proofs.Entry.{off-few, off-stops, image-few, image-stops, port-stops, fit, entry-good, entry-heard}
+use Rattle.tag.specs.Steps.{front_by}
+use Rattle.tag.proofs.Entry.{off-stops, image-stops, port-stops, fit, entry-good, entry-heard}
 use Rattle.tag.proofs.radio.frame.Goals as goal
 
-pub answer_of-requires : goal.answer_of-requires
-answer_of-requires c = let a = c.args in let m = a.image.now in
-    let e : fits_of a.r ≡ false = sym c.fits.ensures ∙ not-true _ c.if-not-fits.true-raw in
-    off-few a.r m a.frame.now a.n a.fresh a.room.now a.s e (c.or_five.ensures ∙ ap (front_by 5) c.ready-row.ensures)
+pub or_five-requires : goal.or_five-requires
+or_five-requires c = c.ready-ready.ensures.1
 
 pub returns-then-not-fits : goal.returns-then-not-fits
 returns-then-not-fits c = let a = c.args in let m = a.image.now in
     let e : fits_of a.r ≡ false = sym c.fits.ensures ∙ not-true _ c.if-not-fits.true-raw in
-    rw (c.refused.ensures, c.off_record.ensures) (ap (λ (k : ℕ). stays k blank m a.room.now) c.answer_of.ensures ∙ off-stops a.r m a.frame.now a.n a.fresh a.room.now a.s e (c.or_five.ensures ∙ ap (front_by 5) c.ready-row.ensures))
+    rw (c.refused.ensures, c.off_record.ensures) (off-stops a.r m a.frame.now a.n a.fresh a.room.now a.s e (c.or_five.ensures ∙ ap (front_by 5) c.ready-ready.ensures.0))
 
-pub answer_of-requires-then-row-ne0 : goal.answer_of-requires-then-row-ne0
-answer_of-requires-then-row-ne0 c = let a = c.args in let m = a.image.now in
+pub returns-in-Err : goal.returns-in-Err
+returns-in-Err c = let a = c.args in let m = a.image.now in
     let e : fits_of a.r ≡ true = sym c.fits.ensures ∙ not-false _ c.if-not-fits.false-raw in
-    image-few a.r m a.frame.now a.n a.fresh a.room.now a.s e c.ready-row.ensures c.if-row-ne0.true
+    rw c.refused-in-Err.ensures (image-stops a.r m a.frame.now a.n a.fresh a.room.now a.s e (sym (ap row_in c.in-Err.is) ∙ c.ready-ready.ensures.0) (subst Stops c.in-Err.is c.ready-ready.ensures.1))
 
-pub returns-then-row-ne0 : goal.returns-then-row-ne0
-returns-then-row-ne0 c = let a = c.args in let m = a.image.now in
+pub returns-then-from-ne0 : goal.returns-then-from-ne0
+returns-then-from-ne0 c = let a = c.args in let m = a.image.now in
     let e : fits_of a.r ≡ true = sym c.fits.ensures ∙ not-false _ c.if-not-fits.false-raw in
-    rw c.refused-then-row-ne0.ensures (ap (λ (k : ℕ). stays k (numbers_in a.r) m a.room.now) c.answer_of-then-row-ne0.ensures ∙ image-stops a.r m a.frame.now a.n a.fresh a.room.now a.s e c.ready-row.ensures c.if-row-ne0.true)
-
-pub returns-then-unpack-ne0 : goal.returns-then-unpack-ne0
-returns-then-unpack-ne0 c = let a = c.args in let m = a.image.now in
-    let e : fits_of a.r ≡ true = sym c.fits.ensures ∙ not-false _ c.if-not-fits.false-raw in
-    rw c.refused-then-unpack-ne0.ensures (port-stops a.r m a.frame.now a.n a.fresh a.room.now a.s e c.ready-row.ensures c.if-row-ne0.false (λ z. c.if-unpack-ne0.true (ap (λ (v : Numbers). v.held) c.unpack.ensures ∙ z)))
+    rw c.refused-then-from-ne0.ensures (port-stops a.r m a.frame.now a.n a.fresh a.room.now a.s e (sym (ap row_in c.in_default.is) ∙ c.ready-ready.ensures.0) (λ i. 0) (λ z. c.if-from-ne0.true (ap (λ (v : Numbers). v.held) c.from.ensures ∙ z)))
 
 pub hearing-requires : goal.hearing-requires
 hearing-requires c = let a = c.args in let m = a.image.now in
     let e : fits_of a.r ≡ true = sym c.fits.ensures ∙ not-false _ c.if-not-fits.false-raw in
+    let z = sym (ap row_in c.in_default.is) ∙ c.ready-ready.ensures.0 in
     record {
-      good = entry-good a.r m a.frame.now a.n a.fresh a.room.now a.s e c.ready-row.ensures c.if-row-ne0.false (ap (λ (v : Numbers). v.held) (sym c.unpack.ensures) ∙ c.if-unpack-ne0.false);
-      fit = fit a.r m a.frame.now a.n a.fresh a.room.now a.s e c.ready-row.ensures;
+      good = entry-good a.r m a.frame.now a.n a.fresh a.room.now a.s e z (λ i. 0) (ap (λ (v : Numbers). v.held) (sym c.from.ensures) ∙ c.if-from-ne0.false);
+      fit = fit a.r m a.frame.now a.n a.fresh a.room.now a.s e z;
     }
 
 pub returns : goal.returns
 returns c = let a = c.args in let m = a.image.now in
     let e : fits_of a.r ≡ true = sym c.fits.ensures ∙ not-false _ c.if-not-fits.false-raw in
-    c.hearing.ensures ∙ entry-heard a.r m a.frame.now a.n a.fresh a.room.now a.s e c.ready-row.ensures c.if-row-ne0.false (ap (λ (v : Numbers). v.held) (sym c.unpack.ensures) ∙ c.if-unpack-ne0.false)
+    c.hearing.ensures ∙ entry-heard a.r m a.frame.now a.n a.fresh a.room.now a.s e (sym (ap row_in c.in_default.is) ∙ c.ready-ready.ensures.0) (λ i. 0) (ap (λ (v : Numbers). v.held) (sym c.from.ensures) ∙ c.if-from-ne0.false)

@@ -6,7 +6,7 @@ use Rattle.tag.proofs.recording.session_of.Goals as goal
 
 pub returns-then-fits : goal.returns-then-fits
 returns-then-fits c =
-    c.near.ensures ∙ ap near_of c.unpack.ensures ∙ fit-near _ (sym c.fits.ensures ∙ c.if-fits.true)
+    c.near.ensures ∙ ap near_of c.from.ensures ∙ fit-near _ (sym c.fits.ensures ∙ c.if-fits.true)
 
-pub returns : goal.returns
-returns c = sym (unfit-off _ (sym c.fits.ensures ∙ c.if-fits.false))
+pub returns-else-fits : goal.returns-else-fits
+returns-else-fits c = sym (unfit-off _ (sym c.fits.ensures ∙ c.if-fits.false))
