@@ -21,6 +21,9 @@ ebv p =
 abbrev pub plain : ℕ → ℕ → ℕ → Layout
 plain v n k = record { front = field v n; middle = field 0 0; back = field 0 0; body = 0; tail = field 0 0; check = k }
 
+abbrev pub placed : ℕ → ℕ → Place → Layout
+placed v n p = record (plain (v * 4 + p.bank % 4) (n + 2) 0) { middle = ebv p.pointer }
+
 abbrev pub addressed : Field → Field → Field → ℕ → ℕ → Layout
 addressed front middle back h k = record { front = front; middle = middle; back = back; body = 0; tail = field h 16; check = k }
 

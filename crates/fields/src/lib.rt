@@ -8,7 +8,7 @@ ghost use Rattle.replies.specs.Pack.{packed};
 ghost use Rattle.fields.specs.Steps.{field_bits, check_of, seal_bits, with_bit, Goes};
 
 // A number and how many of its low bits count.
-#[derive(Clone, Copy)]
+#[derive(Clone, Copy, Default)]
 pub struct Field {
     pub value: u32,
     pub bits: usize,
