@@ -28,8 +28,7 @@ abbrev pub addressed : Field → Field → Field → ℕ → ℕ → Layout
 addressed front middle back h k = record { front = front; middle = middle; back = back; body = 0; tail = field h 16; check = k }
 
 abbrev pub pointing : ℕ → ℕ → Place → Field → ℕ → ℕ → Layout
-pointing v n p back body h =
-    record { front = field (v * 4 + p.bank % 4) (n + 2); middle = ebv p.pointer; back = back; body = body; tail = field h 16; check = 16 }
+pointing v n p back body h = record (placed v n p) { back = back; body = body; tail = field h 16; check = 16 }
 
 abbrev pub select_of : ℕ → ℕ → Place → ℕ → Layout
 select_of t a p l =

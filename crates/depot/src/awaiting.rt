@@ -9,19 +9,17 @@ pub fn kind_of(command: Command) -> Option<Awaited>
     ensures { result ≡ awaited_by command }
 {
     match command {
-        Command::QueryRep(_) | Command::Query(_) | Command::QueryAdjust(_, _) => Some(
-            Awaited::Drawn,
-        ),
+        Command::QueryRep(_) | Command::Query(_) | Command::QueryAdjust(..) => Some(Awaited::Drawn),
         Command::Ack => Some(Awaited::Epc),
-        Command::Select(_, _, _, _) | Command::Nak => None,
+        Command::Select(..) | Command::Nak => None,
         Command::ReqRn => Some(Awaited::Renewed),
         Command::Read(_, count) | Command::ReadPermalock(_, count) => Some(Awaited::Words(count)),
         Command::Kill(_) => Some(Awaited::Half),
         Command::Access(_) => Some(Awaited::Handle),
-        Command::Write(_, _)
-        | Command::Lock(_, _)
+        Command::Write(..)
+        | Command::Lock(..)
         | Command::BlockWrite(_)
-        | Command::BlockErase(_, _)
+        | Command::BlockErase(..)
         | Command::Permalock(_) => Some(Awaited::Done),
     }
 }

@@ -18,26 +18,22 @@ pub struct Layout {
     pub check: usize,
 }
 
+fn field(value: u32, bits: usize) -> Field
+    ensures { result ≡ field value bits }
+{
+    Field { value, bits }
+}
+
 // A pointer in its shortest form.
 fn ebv(p: u32) -> Field
     ensures { result ≡ ebv p }
 {
     let last = p % 128;
     let middle = (128 + p / 128 % 128) * 256 + last;
-    let first = (128 + p / 16384 % 128) * 65536 + middle;
     match p {
-        0..128 => Field {
-            value: last,
-            bits: 8,
-        },
-        128..16384 => Field {
-            value: middle,
-            bits: 16,
-        },
-        _ => Field {
-            value: first,
-            bits: 24,
-        },
+        0..128 => field(last, 8),
+        128..16384 => field(middle, 16),
+        _ => field((128 + p / 16384 % 128) * 65536 + middle, 24),
     }
 }
 
@@ -48,33 +44,33 @@ fn covered(word: u16, cover: u16) -> u32
     u32::from(word) ^ u32::from(cover)
 }
 
+// A frame of one number.
+fn plain(value: u32, bits: usize) -> Layout
+    ensures { result ≡ plain value bits 0 }
+{
+    Layout {
+        front: field(value, bits),
+        ..Layout::default()
+    }
+}
+
+// A code of so many bits, a bank and a pointer.
+fn placed(code: u32, bits: usize, p: Place) -> Layout
+    requires { (code < 2 ^ 17) × (bits ≤ 17) }
+    ensures { result ≡ placed code bits p }
+{
+    Layout {
+        middle: ebv(p.pointer),
+        ..plain(code * 4 + p.bank % 4, bits + 2)
+    }
+}
+
 impl Layout {
-    // A frame of one number.
-    fn plain(value: u32, bits: usize) -> Layout
-        ensures { result ≡ plain value bits 0 }
-    {
-        Layout {
-            front: Field { value, bits },
-            ..Layout::default()
-        }
-    }
-
-    // A code of so many bits, a bank and a pointer.
-    fn placed(code: u32, bits: usize, p: Place) -> Layout
-        requires { (code < 2 ^ 17) × (bits ≤ 17) }
-        ensures { result ≡ placed code bits p }
-    {
-        Layout {
-            middle: ebv(p.pointer),
-            ..Layout::plain(code * 4 + p.bank % 4, bits + 2)
-        }
-    }
-
     fn middle(self, value: u32, bits: usize) -> Layout
         ensures { result ≡ record self { middle = field value bits } }
     {
         Layout {
-            middle: Field { value, bits },
+            middle: field(value, bits),
             ..self
         }
     }
@@ -83,7 +79,7 @@ impl Layout {
         ensures { result ≡ record self { back = field value bits } }
     {
         Layout {
-            back: Field { value, bits },
+            back: field(value, bits),
             ..self
         }
     }
@@ -104,16 +100,13 @@ impl Layout {
         ensures { result ≡ record self { tail = field number 16 } }
     {
         Layout {
-            tail: Field {
-                value: u32::from(number),
-                bits: 16,
-            },
+            tail: field(u32::from(number), 16),
             ..self
         }
     }
 
-    // A frame to one tag.
-    fn to_one(self, number: u16) -> Layout
+    // To one tag: its number, and a CRC-16.
+    fn to(self, number: u16) -> Layout
         ensures { result ≡ record self { tail = field number 16; check = 16 } }
     {
         Layout {
@@ -127,12 +120,8 @@ impl Layout {
         requires { Narrow self }
         ensures { result ≡ total_of self }
     {
-        self.front.bits
-            + self.middle.bits
-            + self.back.bits
-            + self.body
-            + self.tail.bits
-            + self.check
+        let fields = self.front.bits + self.middle.bits + self.back.bits;
+        fields + self.body + self.tail.bits + self.check
     }
 }
 
@@ -142,9 +131,9 @@ fn select(target: u32, action: u32, p: Place, length: u32) -> Layout
     let code = (10 * 8 + target % 8) * 8 + action % 8;
     Layout {
         body: length as usize,
-        tail: Field { value: 0, bits: 1 },
+        tail: field(0, 1),
         check: 16,
-        ..Layout::placed(code, 10, p).back(length, 8)
+        ..placed(code, 10, p).back(length, 8)
     }
 }
 
@@ -155,7 +144,7 @@ fn query(r: Round) -> Layout
     let who = ((link * 4 + r.sel % 4) * 4 + r.session % 4) * 2 + r.target % 2;
     Layout {
         check: 5,
-        ..Layout::plain(who * 16 + r.q % 16, 17)
+        ..plain(who * 16 + r.q % 16, 17)
     }
 }
 
@@ -165,47 +154,33 @@ pub fn lay(command: Command, number: u16, cover: u16, bytes: usize) -> Layout
     ensures { result ≡ layout_of command bytes number cover }
 {
     match command {
-        Command::QueryRep(session) => Layout::plain(session % 4, 4),
-        Command::Ack => Layout::plain(1, 2).carrying(number),
+        Command::QueryRep(session) => plain(session % 4, 4),
+        Command::Ack => plain(1, 2).carrying(number),
         Command::Query(r) => query(r),
         Command::QueryAdjust(session, up_down) => {
-            Layout::plain((9 * 4 + session % 4) * 8 + up_down % 8, 9)
+            plain((9 * 4 + session % 4) * 8 + up_down % 8, 9)
         }
         Command::Select(target, action, p, length) => select(target, action, p, length),
-        Command::Nak => Layout::plain(0xC0, 8),
-        Command::ReqRn => Layout::plain(0xC1, 8).to_one(number),
-        Command::Read(p, count) => Layout::placed(0xC2, 8, p).back(count, 8).to_one(number),
-        Command::Write(p, word) => {
-            Layout::placed(0xC3, 8, p)
-                .back(covered(word, cover), 16)
-                .to_one(number)
-        }
+        Command::Nak => plain(0xC0, 8),
+        Command::ReqRn => plain(0xC1, 8).to(number),
+        Command::Read(p, count) => placed(0xC2, 8, p).back(count, 8).to(number),
+        Command::Write(p, word) => placed(0xC3, 8, p).back(covered(word, cover), 16).to(number),
         Command::Kill(half) => {
-            Layout::plain(0xC4, 8)
+            plain(0xC4, 8)
                 .middle(covered(half, cover), 16)
                 .back(0, 3)
-                .to_one(number)
+                .to(number)
         }
         Command::Lock(mask, action) => {
-            Layout::plain(0xC5, 8)
+            plain(0xC5, 8)
                 .middle(u32::from(mask), 10)
                 .back(u32::from(action), 10)
-                .to_one(number)
+                .to(number)
         }
-        Command::Access(half) => {
-            Layout::plain(0xC6, 8)
-                .middle(covered(half, cover), 16)
-                .to_one(number)
-        }
-        Command::BlockWrite(p) => Layout::placed(0xC7, 8, p).words(bytes).to_one(number),
-        Command::BlockErase(p, count) => Layout::placed(0xC8, 8, p).back(count, 8).to_one(number),
-        Command::ReadPermalock(p, range) => {
-            Layout::placed(0xC9 * 512, 17, p)
-                .back(range, 8)
-                .to_one(number)
-        }
-        Command::Permalock(p) => Layout::placed(0xC9 * 512 + 1, 17, p)
-            .words(bytes)
-            .to_one(number),
+        Command::Access(half) => plain(0xC6, 8).middle(covered(half, cover), 16).to(number),
+        Command::BlockWrite(p) => placed(0xC7, 8, p).words(bytes).to(number),
+        Command::BlockErase(p, count) => placed(0xC8, 8, p).back(count, 8).to(number),
+        Command::ReadPermalock(p, range) => placed(0xC9 * 512, 17, p).back(range, 8).to(number),
+        Command::Permalock(p) => placed(0xC9 * 512 + 1, 17, p).words(bytes).to(number),
     }
 }

@@ -35,7 +35,7 @@ fn select(target: u32, action: u32, p: Place, length: u32, bytes: usize) -> bool
     ensures { result ≡ select_within target action p length bytes }
 {
     let asked = length < 256 && target < 5 && action < 8;
-    asked && 0 < p.bank && placed(p) && bytes == (length as usize + 7) / 8
+    asked && 0 < p.bank && placed(p) && bytes == (length as usize).div_ceil(8)
 }
 
 // A command whose payload has so many bytes.
