@@ -1,18 +1,11 @@
 // A record of numbers as a depot's command, and a depot's answers as numbers (RULES 12.9).
-ghost use Rattle.std.specs.Prelude.{ℕ, ◌≡◌, List};
+ghost use Rattle.std.specs.Prelude.{ℕ, ◌≡◌, Some, None, cond, ltb, List};
 ghost use Rattle.depot.specs.Making.{sent};
 ghost use Rattle.readings.specs.Reading.{meaning};
-ghost use Rattle.capi.specs.Depot.{place_in, round_in, writing, killing, locking, opening, command_of, framed, replied, reply_of};
+ghost use Rattle.capi.specs.Depot.{place_in, round_in, command_of, framed, replied, reply_of};
 
 use crate::{Frame, Reply, Request};
-use depot::{Command, Made, Place, Reading, Round};
-
-// A command, or none.
-#[derive(Clone, Copy)]
-pub enum Asked {
-    Nothing,
-    For(Command),
-}
+use depot::{Command, NotMade, NotRead, Place, Reading, Round};
 
 fn place(r: Request) -> Place
     ensures { result ≡ place_in r }
@@ -37,80 +30,49 @@ fn round(r: Request) -> Round
     }
 }
 
-// The four kinds that have words of 16 bits.
-fn write(r: Request) -> Asked
-    ensures { result ≡ writing r }
+// A word has 16 bits.
+fn word(w: u32) -> Option<u16>
+    ensures { result ≡ cond (ltb w 0x10000) (Some w) None }
 {
-    if r.word > 0xFFFF {
-        return Asked::Nothing;
-    }
-    Asked::For(Command::Write(place(r), r.word as u16))
-}
-
-fn kill(r: Request) -> Asked
-    ensures { result ≡ killing r }
-{
-    if r.word > 0xFFFF {
-        return Asked::Nothing;
-    }
-    Asked::For(Command::Kill(r.word as u16))
-}
-
-fn lock(r: Request) -> Asked
-    ensures { result ≡ locking r }
-{
-    if r.mask > 0xFFFF {
-        return Asked::Nothing;
-    }
-    if r.action > 0xFFFF {
-        return Asked::Nothing;
-    }
-    Asked::For(Command::Lock(r.mask as u16, r.action as u16))
-}
-
-fn access(r: Request) -> Asked
-    ensures { result ≡ opening r }
-{
-    if r.word > 0xFFFF {
-        return Asked::Nothing;
-    }
-    Asked::For(Command::Access(r.word as u16))
+    u16::try_from(w).ok()
 }
 
 // The command of a record, by its kind.
-pub fn command_of(r: Request) -> Asked
+#[tactic(auto, unfolding(crate::specs::Depot::command_of))]
+pub fn command_of(r: Request) -> Option<Command>
     ensures { result ≡ command_of r }
 {
-    let kind = r.kind;
-    match kind {
-        0 => Asked::For(Command::QueryRep(r.session)),
-        1 => Asked::For(Command::Ack),
-        2 => Asked::For(Command::Query(round(r))),
-        3 => Asked::For(Command::QueryAdjust(r.session, r.up_down)),
-        4 => Asked::For(Command::Select(r.target, r.action, place(r), r.count)),
-        5 => Asked::For(Command::Nak),
-        6 => Asked::For(Command::ReqRn),
-        7 => Asked::For(Command::Read(place(r), r.count)),
-        8 => write(r),
-        9 => kill(r),
-        10 => lock(r),
-        11 => access(r),
-        12 => Asked::For(Command::BlockWrite(place(r))),
-        13 => Asked::For(Command::BlockErase(place(r), r.count)),
-        14 => Asked::For(Command::ReadPermalock(place(r), r.count)),
-        15 => Asked::For(Command::Permalock(place(r))),
-        _ => Asked::Nothing,
-    }
+    Some(match r.kind {
+        0 => Command::QueryRep(r.session),
+        1 => Command::Ack,
+        2 => Command::Query(round(r)),
+        3 => Command::QueryAdjust(r.session, r.up_down),
+        4 => Command::Select(r.target, r.action, place(r), r.count),
+        5 => Command::Nak,
+        6 => Command::ReqRn,
+        7 => Command::Read(place(r), r.count),
+        8 => Command::Write(place(r), word(r.word)?),
+        9 => Command::Kill(word(r.word)?),
+        10 => Command::Lock(word(r.mask)?, word(r.action)?),
+        11 => Command::Access(word(r.word)?),
+        12 => Command::BlockWrite(place(r)),
+        13 => Command::BlockErase(place(r), r.count),
+        14 => Command::ReadPermalock(place(r), r.count),
+        15 => Command::Permalock(place(r)),
+        _ => return None,
+    })
 }
 
 // What making answers, as numbers.
-pub fn frame_of(made: Made) -> Frame
+pub fn frame_of(made: Result<usize, NotMade>) -> Frame
     ensures { (room : List ℕ) → framed result room ≡ sent made room }
 {
     match made {
-        Made::Frame(n) => Frame { answer: 0, bits: n },
-        Made::Beyond => Frame { answer: 9, bits: 0 },
-        Made::NoRoom => Frame { answer: 4, bits: 0 },
+        Ok(bits) => Frame { answer: 0, bits },
+        Err(refusal) => Frame {
+            answer: usize::from(refusal),
+            bits: 0,
+        },
     }
 }
 
@@ -118,24 +80,22 @@ fn reply(answer: usize, kind: usize, value: usize, at: usize) -> Reply
     ensures { result ≡ replied answer kind value at }
 {
     Reply {
-        answer: answer,
-        kind: kind,
-        value: value,
-        at: at,
+        answer,
+        kind,
+        value,
+        at,
     }
 }
 
 // What reading answers, as numbers.
-pub fn reply_of(reading: Reading) -> Reply
+pub fn reply_of(reading: Result<Reading, NotRead>) -> Reply
     ensures { result ≡ reply_of (meaning reading) }
 {
     match reading {
-        Reading::Error(code) => reply(0, 1, code as usize, 0),
-        Reading::Words { count, at } => reply(0, 2, count, at),
-        Reading::Number(word) => reply(0, 3, word as usize, 0),
-        Reading::Done => reply(0, 4, 0, 0),
-        Reading::Beyond => reply(9, 0, 0, 0),
-        Reading::Checksum => reply(8, 0, 0, 0),
-        Reading::Other => reply(15, 0, 0, 0),
+        Ok(Reading::Error(code)) => reply(0, 1, usize::from(code), 0),
+        Ok(Reading::Words { count, at }) => reply(0, 2, count, at),
+        Ok(Reading::Number(word)) => reply(0, 3, usize::from(word), 0),
+        Ok(Reading::Done) => reply(0, 4, 0, 0),
+        Err(refusal) => reply(usize::from(refusal), 0, 0, 0),
     }
 }

@@ -17,7 +17,7 @@ mod commands;
 mod records;
 mod sheets;
 
-use commands::Asked;
+use depot::{NotMade, NotRead};
 pub use states::Record;
 
 // An outcome: the answer's number, the new session, the reply's length in bits, the stores made, and the register where it was read.
@@ -198,10 +198,10 @@ pub extern "C" fn depot_make(
 ) -> Frame
     ensures { framed result room.new ≡ make_for (command_of command) payload.now number cover room.old }
 {
-    match commands::command_of(command) {
-        Asked::Nothing => commands::frame_of(depot::Made::Beyond),
-        Asked::For(o) => commands::frame_of(depot::make(o, payload, number, cover, room)),
-    }
+    let Some(o) = commands::command_of(command) else {
+        return commands::frame_of(Err(NotMade::Beyond));
+    };
+    commands::frame_of(depot::make(o, payload, number, cover, room))
 }
 
 // Reads n bits as a reply to a command, with the number that it carried.
@@ -215,8 +215,8 @@ pub extern "C" fn depot_read(
 ) -> Reply
     ensures { result ≡ reply_of (read_for (command_of command) payload.now number n reply.now) }
 {
-    match commands::command_of(command) {
-        Asked::Nothing => commands::reply_of(depot::Reading::Beyond),
-        Asked::For(o) => commands::reply_of(depot::read(o, payload, number, n, reply)),
-    }
+    let Some(o) = commands::command_of(command) else {
+        return commands::reply_of(Err(NotRead::Beyond));
+    };
+    commands::reply_of(depot::read(o, payload, number, n, reply))
 }

@@ -1,4 +1,5 @@
 -- Nothing else is read: bits that are not refused are those of a reply that says what was read. Assumes nothing.
+use Rattle.std.specs.Prelude.{Option, Some, None}
 use Prim.Native.Nat.{ℕ, zero, suc, ◌+◌, ◌-◌, ◌*◌, ◌/◌, ◌%◌, ◌≤◌, ◌<◌}
 use mathlib.Core.Path.{◌≡◌, refl, sym, ap, ap₂, subst, ◌∙◌}
 use mathlib.Core.Logic.{◌⊎◌, inl, inr}
@@ -79,10 +80,10 @@ module _ (h n : ℕ) (b : List ℕ) where
       ∙ ap (λ (bs : List ℕ). bits_from b 0 j ++ bs) (ap (λ (i : ℕ). bits_from b i 16) y ∙ sym (field-bits b j 16) ∙ ap (bits_of 16) sum)
 
   -- a reply that says x
-  abbrev Said : Awaited → Told → Type 0
+  abbrev Said : Option Awaited → Told → Type 0
   Said a x = (m : List ℕ) × (r : Reply) × Replies m h a r × (x ≡ meant r) × (bits_from b 0 n ≡ reply_bits m r)
 
-  abbrev Sound : Awaited → Row → Type 0
+  abbrev Sound : Option Awaited → Row → Type 0
   Sound a r = r.1 ≡ true → Said a r.0
 
   -- a first bit, and the handle at bit j
@@ -136,7 +137,7 @@ module _ (h n : ℕ) (b : List ℕ) where
         )
 
     -- each row, for the kinds that have it
-    epc-sound : Sound await.Epc (epc h n b)
+    epc-sound : Sound (Some await.Epc) (epc h n b)
     epc-sound e =
         let l = field_at b 0 5 in
         let m = bytes_from b 0 (2 * (l + 1)) in
@@ -149,10 +150,10 @@ module _ (h n : ℕ) (b : List ℕ) where
           rest (16 * (l + 1)) (eqb-true n (16 * (l + 2)) e ∙ omega arith) right ∙ ap checked (words-from b 0 (l + 1)) ∙ ap (λ (x : ℕ). checked (words_bits m 0 (x + 1))) (sym long),
         )
 
-    renewed-sound : Sound await.Renewed (renewed h n b)
+    renewed-sound : Sound (Some await.Renewed) (renewed h n b)
     renewed-sound e = ([], reply.Number (field_at b 0 16), answers.renewed (field_at b 0 16) (field_lt b 0 16), refl, number_is (field_at b 0 16) (eqb-true n 32 e) refl)
 
-    shown-sound : (c : ℕ) → Sound (await.Words c) (shown h n b (asked h n b c))
+    shown-sound : (c : ℕ) → Sound (Some (await.Words c)) (shown h n b (asked h n b c))
     shown-sound c e =
         let k = asked h n b c in
         let s = shown-is k e in
@@ -163,11 +164,11 @@ module _ (h n : ℕ) (b : List ℕ) where
         by false z = inr refl
 
     -- the first row that holds, if any
-    abbrev Sounds : Awaited → List Row → Type 0
+    abbrev Sounds : Option Awaited → List Row → Type 0
     Sounds a [] = Unit {0}
     Sounds a (r ∷ rows) = Sound a r × Sounds a rows
 
-    pick : (a : Awaited) (rows : List Row) → Sounds a rows → (IsRefused (saying rows) → ⊥) → Said a (saying rows)
+    pick : (a : Option Awaited) (rows : List Row) → Sounds a rows → (IsRefused (saying rows) → ⊥) → Said a (saying rows)
     pick a [] s none = absurd (none tt)
     pick a (r ∷ rows) s none = go r.1 refl (pick a rows s.1) none
       where
@@ -175,51 +176,51 @@ module _ (h n : ℕ) (b : List ℕ) where
         go true e again none = s.0 e
         go false e again none = again none
 
-    kind-sound : (a : Awaited) → is_drawn a ≡ false → Sounds a (kind_rows h n b a)
-    kind-sound await.Drawn e = absurd (drawn-not e)
-    kind-sound await.Epc e = (epc-sound, tt)
-    kind-sound await.Renewed e = (renewed-sound, tt)
-    kind-sound await.Handle e = ((λ f. ([], reply.Number h, answers.handle, refl, handle-is f)), tt)
-    kind-sound await.Half e = (
+    kind-sound : (a : Option Awaited) → is_drawn a ≡ false → Sounds a (kind_rows h n b a)
+    kind-sound (Some await.Drawn) e = absurd (drawn-not e)
+    kind-sound (Some await.Epc) e = (epc-sound, tt)
+    kind-sound (Some await.Renewed) e = (renewed-sound, tt)
+    kind-sound (Some await.Handle) e = ((λ f. ([], reply.Number h, answers.handle, refl, handle-is f)), tt)
+    kind-sound (Some await.Half) e = (
       (λ f. ([], reply.Number h, answers.first-half, refl, handle-is f)),
       (
         (λ f. ([], reply.Success h, answers.second-half, refl, success-is f)),
         ((λ f. ([], reply.Error (field_at b 1 8) h, answers.half-error (field_at b 1 8) (field_lt b 1 8), refl, failure-is f)), tt),
       ),
     )
-    kind-sound await.Done e = (
+    kind-sound (Some await.Done) e = (
       (λ f. ([], reply.Success h, answers.success, refl, success-is f)),
       ((λ f. ([], reply.Error (field_at b 1 8) h, answers.error (field_at b 1 8) (field_lt b 1 8), refl, failure-is f)), tt),
     )
-    kind-sound (await.Words c) e = (
+    kind-sound (Some (await.Words c)) e = (
       shown-sound c,
       ((λ f. ([], reply.Error (field_at b 1 8) h, answers.words-error c (field_at b 1 8) (field_lt b 1 8), refl, failure-is f)), tt),
     )
-    kind-sound await.Nothing e = tt
+    kind-sound None e = tt
 
-  drawn-sound : (IsRefused (saying (drawn h n b ∷ [])) → ⊥) → Said await.Drawn (saying (drawn h n b ∷ []))
+  drawn-sound : (IsRefused (saying (drawn h n b ∷ [])) → ⊥) → Said (Some await.Drawn) (saying (drawn h n b ∷ []))
   drawn-sound none = go (eqb n 16) refl none
     where
-      go : (t : Bool) → eqb n 16 ≡ t → (IsRefused (cond t (number (field_at b 0 16)) (refused 15)) → ⊥) → Said await.Drawn (cond t (number (field_at b 0 16)) (refused 15))
+      go : (t : Bool) → eqb n 16 ≡ t → (IsRefused (cond t (number (field_at b 0 16)) (refused 15)) → ⊥) → Said (Some await.Drawn) (cond t (number (field_at b 0 16)) (refused 15))
       go true e none = ([], reply.Drawn (field_at b 0 16), answers.drawn (field_at b 0 16) (field_lt b 0 16), refl, ap (bits_from b 0) (eqb-true n 16 e) ∙ sym (field-bits b 0 16))
       go false e none = absurd (none tt)
 
-  checked-sound : (a : Awaited) → is_drawn a ≡ false → (IsRefused (saying (wrong_sum h n b ∷ kind_rows h n b a)) → ⊥) → Said a (saying (wrong_sum h n b ∷ kind_rows h n b a))
+  checked-sound : (a : Option Awaited) → is_drawn a ≡ false → (IsRefused (saying (wrong_sum h n b ∷ kind_rows h n b a)) → ⊥) → Said a (saying (wrong_sum h n b ∷ kind_rows h n b a))
   checked-sound a e none = go (checksum_right b n) refl none
     where
       go : (t : Bool) → checksum_right b n ≡ t → (IsRefused (cond (not t) (refused 8) (saying (kind_rows h n b a))) → ⊥) → Said a (cond (not t) (refused 8) (saying (kind_rows h n b a)))
       go true r none = pick r a (kind_rows h n b a) (kind-sound r a e) none
       go false r none = absurd (none tt)
 
-  only-there : (a : Awaited) → (IsRefused (saying (awaited_rows h n b a)) → ⊥) → Said a (saying (awaited_rows h n b a))
-  only-there await.Drawn none = drawn-sound none
-  only-there await.Epc none = checked-sound await.Epc refl none
-  only-there await.Renewed none = checked-sound await.Renewed refl none
-  only-there await.Handle none = checked-sound await.Handle refl none
-  only-there await.Half none = checked-sound await.Half refl none
-  only-there await.Done none = checked-sound await.Done refl none
-  only-there (await.Words k) none = checked-sound (await.Words k) refl none
-  only-there await.Nothing none = checked-sound await.Nothing refl none
+  only-there : (a : Option Awaited) → (IsRefused (saying (awaited_rows h n b a)) → ⊥) → Said a (saying (awaited_rows h n b a))
+  only-there (Some await.Drawn) none = drawn-sound none
+  only-there (Some await.Epc) none = checked-sound (Some await.Epc) refl none
+  only-there (Some await.Renewed) none = checked-sound (Some await.Renewed) refl none
+  only-there (Some await.Handle) none = checked-sound (Some await.Handle) refl none
+  only-there (Some await.Half) none = checked-sound (Some await.Half) refl none
+  only-there (Some await.Done) none = checked-sound (Some await.Done) refl none
+  only-there (Some (await.Words k)) none = checked-sound (Some (await.Words k)) refl none
+  only-there None none = checked-sound None refl none
 
 pub only : (c : Command) (d : List ℕ) (h : ℕ) → within c (length d) ≡ true → (n : ℕ) (b : List ℕ) → (IsRefused (read_of c d h n b) → ⊥)
     → (m : List ℕ) × (r : Reply) × Replies m h (awaited_by c) r × (read_of c d h n b ≡ meant r) × (bits_from b 0 n ≡ reply_bits m r)

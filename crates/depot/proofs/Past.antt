@@ -1,4 +1,5 @@
 -- Bits and bytes past a reply's count mean nothing: what is read is read of its first n bits. Assumes nothing.
+use Rattle.std.specs.Prelude.{Option, Some, None}
 use Prim.Native.Nat.{ℕ, ◌+◌, ◌-◌, ◌*◌, ◌≤◌}
 use mathlib.Core.Path.{◌≡◌, refl, sym, ap, ap₂, ◌∙◌}
 use mathlib.Core.Bool.{Bool, true, false, not, ◌&&◌}
@@ -79,12 +80,12 @@ module _ (n : ℕ) (m k : List ℕ) (same : bits_from m 0 n ≡ bits_from k 0 n)
     done-same : done_rows h n m ≡ done_rows h n k
     done-same = ap₂ (λ (r s : Row). r ∷ s ∷ []) success-same failure-same
 
-    pub rows_same : (a : Awaited) → awaited_rows h n m a ≡ awaited_rows h n k a
-    rows_same await.Drawn = ap (λ (r : Row). r ∷ []) drawn-same
-    rows_same await.Epc = ap₂ (λ (r s : Row). r ∷ s ∷ []) wrong_sum-same epc-same
-    rows_same await.Renewed = ap₂ (λ (r s : Row). r ∷ s ∷ []) wrong_sum-same renewed-same
-    rows_same await.Handle = ap₂ (λ (r s : Row). r ∷ s ∷ []) wrong_sum-same handle-same
-    rows_same await.Half = ap₂ (λ (r : Row) (rows : List Row). r ∷ rows) wrong_sum-same (ap₂ (λ (r : Row) (rows : List Row). r ∷ rows) handle-same done-same)
-    rows_same await.Done = ap₂ (λ (r : Row) (rows : List Row). r ∷ rows) wrong_sum-same done-same
-    rows_same (await.Words j) = ap₂ (λ (r : Row) (rows : List Row). r ∷ rows) wrong_sum-same (ap₂ (λ (r s : Row). r ∷ s ∷ []) (shown-same (asked h n m j)) failure-same)
-    rows_same await.Nothing = ap (λ (r : Row). r ∷ []) wrong_sum-same
+    pub rows_same : (a : Option Awaited) → awaited_rows h n m a ≡ awaited_rows h n k a
+    rows_same (Some await.Drawn) = ap (λ (r : Row). r ∷ []) drawn-same
+    rows_same (Some await.Epc) = ap₂ (λ (r s : Row). r ∷ s ∷ []) wrong_sum-same epc-same
+    rows_same (Some await.Renewed) = ap₂ (λ (r s : Row). r ∷ s ∷ []) wrong_sum-same renewed-same
+    rows_same (Some await.Handle) = ap₂ (λ (r s : Row). r ∷ s ∷ []) wrong_sum-same handle-same
+    rows_same (Some await.Half) = ap₂ (λ (r : Row) (rows : List Row). r ∷ rows) wrong_sum-same (ap₂ (λ (r : Row) (rows : List Row). r ∷ rows) handle-same done-same)
+    rows_same (Some await.Done) = ap₂ (λ (r : Row) (rows : List Row). r ∷ rows) wrong_sum-same done-same
+    rows_same (Some (await.Words j)) = ap₂ (λ (r : Row) (rows : List Row). r ∷ rows) wrong_sum-same (ap₂ (λ (r s : Row). r ∷ s ∷ []) (shown-same (asked h n m j)) failure-same)
+    rows_same None = ap (λ (r : Row). r ∷ []) wrong_sum-same

@@ -1,4 +1,5 @@
 -- The tag's replies are read as what they say, and nothing else is read. Assumes nothing.
+use Rattle.std.specs.Prelude.{Option, Some}
 use Prim.Native.Nat.{ℕ, zero, suc, ◌+◌, ◌*◌, ◌/◌, ◌^◌, ◌≤◌, ◌<◌}
 use mathlib.Core.Path.{◌≡◌, refl, sym, ap, ap₂, ◌∙◌}
 use mathlib.Core.Logic.{◌⊎◌, inl, inr}
@@ -49,7 +50,7 @@ module _ (m : List ℕ) (n : ℕ) where
   fields_in fs s l e = let w = whole m (fields fs) n (l ∙ summed (fields fs)) e in (stand m 0 fs s w.0, w.1)
 
   -- a row that holds, behind a CRC-16 that is right
-  told-right : (h : ℕ) (a : Awaited) → is_drawn a ≡ false → checksum_right m n ≡ true → steps.saying (awaited_rows h n m a) ≡ steps.saying (kind_rows h n m a)
+  told-right : (h : ℕ) (a : Option Awaited) → is_drawn a ≡ false → checksum_right m n ≡ true → steps.saying (awaited_rows h n m a) ≡ steps.saying (kind_rows h n m a)
   told-right h a e r = rw (e, r)
 
 -- the first word of several
@@ -95,10 +96,10 @@ module _ (m : List ℕ) (h : ℕ) (small : h < 65536) (p : List ℕ) (n : ℕ) w
   abbrev In : Reply → Type 0
   In r = (n ≡ length (reply_bits m r)) × (bits_from p 0 n ≡ reply_bits m r)
 
-  abbrev Reads : Awaited → Reply → Type 0
+  abbrev Reads : Option Awaited → Reply → Type 0
   Reads a r = steps.saying (awaited_rows h n p a) ≡ meant r
 
-  drawn-so : (w : ℕ) → w < 65536 → In (reply.Drawn w) → Reads await.Drawn (reply.Drawn w)
+  drawn-so : (w : ℕ) → w < 65536 → In (reply.Drawn w) → Reads (Some await.Drawn) (reply.Drawn w)
   drawn-so w b s =
       let size : n ≡ 16 = s.0 ∙ length-bits 16 w in
       rw (field_of p 0 16 w b (ap (bits_from p 0) (sym size) ∙ s.1)) (simp (eq-eqb n 16 size))
@@ -110,13 +111,13 @@ module _ (m : List ℕ) (h : ℕ) (small : h < 65536) (p : List ℕ) (n : ℕ) w
       let f = fields_in p n one (b, tt) (s.0 ∙ ap (λ (bs : List ℕ). length (checked bs)) same) (s.1 ∙ ap checked same) in
       (s.0 ∙ summed (bits_of 16 w) ∙ ap (λ (x : ℕ). x + 16) (length-bits 16 w), f.0.0, f.1)
 
-  renewed-so : (w : ℕ) → w < 65536 → In (reply.Number w) → Reads await.Renewed (reply.Number w)
+  renewed-so : (w : ℕ) → w < 65536 → In (reply.Number w) → Reads (Some await.Renewed) (reply.Number w)
   renewed-so w b s = let f = number_in w b s in rw (f.1, f.2) (simp (eq-eqb n 32 f.0))
 
-  handle-so : In (reply.Number h) → Reads await.Handle (reply.Number h)
+  handle-so : In (reply.Number h) → Reads (Some await.Handle) (reply.Number h)
   handle-so s = let f = number_in h small s in rw (f.1, f.2) (simp (eq-eqb n 32 f.0, eq-eqb h h refl))
 
-  first_so : In (reply.Number h) → Reads await.Half (reply.Number h)
+  first_so : In (reply.Number h) → Reads (Some await.Half) (reply.Number h)
   first_so s = let f = number_in h small s in rw (f.1, f.2) (simp (eq-eqb n 32 f.0, eq-eqb h h refl))
 
   success-in : In (reply.Success h) → (n ≡ 33) × (field_at p 0 1 ≡ 0) × (field_at p 1 16 ≡ h) × (checksum_right p n ≡ true)
@@ -126,10 +127,10 @@ module _ (m : List ℕ) (h : ℕ) (small : h < 65536) (p : List ℕ) (n : ℕ) w
       let f = fields_in p n two (omega arith, (small, tt)) (s.0 ∙ ap (λ (bs : List ℕ). length (checked bs)) same) (s.1 ∙ ap checked same) in
       (s.0 ∙ summed (0 ∷ bits_of 16 h) ∙ omega (arith, length-bits 16 h), f.0.0, f.0.1.0, f.1)
 
-  success-so : In (reply.Success h) → Reads await.Done (reply.Success h)
+  success-so : In (reply.Success h) → Reads (Some await.Done) (reply.Success h)
   success-so s = let f = success-in s in rw (f.1, f.2, f.3, f.0) (simp (eq-eqb h h refl))
 
-  second_so : In (reply.Success h) → Reads await.Half (reply.Success h)
+  second_so : In (reply.Success h) → Reads (Some await.Half) (reply.Success h)
   second_so s = let f = success-in s in rw (f.1, f.2, f.3, f.0) (simp (eq-eqb h h refl))
 
   error-in : (e : ℕ) → e < 256 → In (reply.Error e h) → (n ≡ 41) × (field_at p 0 1 ≡ 1) × (field_at p 1 8 ≡ e) × (field_at p 9 16 ≡ h) × (checksum_right p n ≡ true)
@@ -139,20 +140,20 @@ module _ (m : List ℕ) (h : ℕ) (small : h < 65536) (p : List ℕ) (n : ℕ) w
       let f = fields_in p n three (omega arith, (b, (small, tt))) (s.0 ∙ ap (λ (bs : List ℕ). length (checked bs)) same) (s.1 ∙ ap checked same) in
       (s.0 ∙ ap (λ (bs : List ℕ). length (checked bs)) same ∙ summed (fields three) ∙ simp (length-append, length-bits), f.0.0, f.0.1.0, f.0.1.1.0, f.1)
 
-  error-so : (e : ℕ) → e < 256 → In (reply.Error e h) → Reads await.Done (reply.Error e h)
+  error-so : (e : ℕ) → e < 256 → In (reply.Error e h) → Reads (Some await.Done) (reply.Error e h)
   error-so e b s = let f = error-in e b s in rw (f.1, f.2, f.3, f.4, f.0) (simp (eq-eqb h h refl))
 
-  half-error-so : (e : ℕ) → e < 256 → In (reply.Error e h) → Reads await.Half (reply.Error e h)
+  half-error-so : (e : ℕ) → e < 256 → In (reply.Error e h) → Reads (Some await.Half) (reply.Error e h)
   half-error-so e b s = let f = error-in e b s in rw (f.1, f.2, f.3, f.4, f.0) (simp (eq-eqb h h refl))
 
-  words-error-so : (c e : ℕ) → e < 256 → In (reply.Error e h) → Reads (await.Words c) (reply.Error e h)
+  words-error-so : (c e : ℕ) → e < 256 → In (reply.Error e h) → Reads (Some (await.Words c)) (reply.Error e h)
   words-error-so c e b s =
       let f = error-in e b s in
       let k = asked h n p c in
       let other : eqb n (33 + 16 * k) ≡ false = ne_eqb n (33 + 16 * k) (λ q. omega (arith, f.0, q)) in
       rw f.4 (passed (ltb 0 k && ltb k 4097) _ _ _ _ other ∙ rw (f.1, f.2, f.3, f.0) (simp (eq-eqb h h refl)))
 
-  words-so : (c i k : ℕ) → (c ≡ 0) ⊎ (c ≡ k) → 1 ≤ k → k ≤ 4096 → In (reply.Words i k h) → Reads (await.Words c) (reply.Words i k h)
+  words-so : (c i k : ℕ) → (c ≡ 0) ⊎ (c ≡ k) → 1 ≤ k → k ≤ 4096 → In (reply.Words i k h) → Reads (Some (await.Words c)) (reply.Words i k h)
   words-so c i k d l t s =
       let f = shown-in m h p n i k s.0 s.1 in
       let size : n ≡ 33 + 16 * k = s.0 ∙ length-reply m (reply.Words i k h) ∙ omega arith in
@@ -164,7 +165,7 @@ module _ (m : List ℕ) (h : ℕ) (small : h < 65536) (p : List ℕ) (n : ℕ) w
       asked-so c k (inl e) size l = rw e (omega (arith, size))
       asked-so c k (inr e) size l = simp (ne_eqb c 0 (λ z. omega (arith, e, z, l))) e
 
-  epc-so : (i : ℕ) → word_at m i < 65536 → In (reply.Epc i (word_at m i / 2048 + 1)) → Reads await.Epc (reply.Epc i (word_at m i / 2048 + 1))
+  epc-so : (i : ℕ) → word_at m i < 65536 → In (reply.Epc i (word_at m i / 2048 + 1)) → Reads (Some await.Epc) (reply.Epc i (word_at m i / 2048 + 1))
   epc-so i b s =
       let l = word_at m i / 2048 in
       let f = epc-in m h p n i (l + 1) s.0 s.1 in
@@ -175,7 +176,7 @@ module _ (m : List ℕ) (h : ℕ) (small : h < 65536) (p : List ℕ) (n : ℕ) w
       rw (top, f.0) (simp (eq-eqb n (16 * (l + 2)) size))
 
   -- each reply is read as what it says
-  meant-so : (a : Awaited) (r : Reply) → Replies m h a r → In r → 16 ≤ n → Reads a r
+  meant-so : (a : Option Awaited) (r : Reply) → Replies m h a r → In r → 16 ≤ n → Reads a r
   meant-so a r (meaning.silence b) s l = absurd (omega (arith, s.0))
   meant-so a r (meaning.drawn w b) s l = drawn-so w b s
   meant-so a r (meaning.epc i b) s l = epc-so i b s
@@ -190,7 +191,7 @@ module _ (m : List ℕ) (h : ℕ) (small : h < 65536) (p : List ℕ) (n : ℕ) w
   meant-so a r (meaning.words-error c e b) s l = words-error-so c e b s
 
 -- a reply that is not silent has 16 bits at least
-long-enough : (m : List ℕ) (h : ℕ) (a : Awaited) (r : Reply) → Replies m h a r → (r ≡ reply.Silence) ⊎ (16 ≤ length (reply_bits m r))
+long-enough : (m : List ℕ) (h : ℕ) (a : Option Awaited) (r : Reply) → Replies m h a r → (r ≡ reply.Silence) ⊎ (16 ≤ length (reply_bits m r))
 long-enough m h a r (meaning.silence b) = inl refl
 long-enough m h a r (meaning.drawn w b) = inr (omega (arith, length-reply m r))
 long-enough m h a r (meaning.epc i b) = inr (omega (arith, length-reply m r))

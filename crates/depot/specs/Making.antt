@@ -1,5 +1,5 @@
 -- THE FRAME of each command, as a depot makes it (RULES 12.2 and 12.3; 3.5 to 3.8 and 11.1). Assumes nothing.
-use Rattle.std.specs.Prelude.{ℕ, ◌+◌, ◌*◌, ◌/◌, ◌%◌, cond, not, List, [], ◌∷◌, ◌++◌, ltb, length}
+use Rattle.std.specs.Prelude.{ℕ, ◌+◌, ◌*◌, ◌/◌, ◌%◌, cond, not, Result, Ok, Err, List, [], ◌∷◌, ◌++◌, ltb, length}
 use Rattle.std.specs.Int.Bits.{bit_xor}
 use Rattle.bits.specs.Bits.{bits_from, bits_of}
 use Rattle.bits.specs.First.{first}
@@ -9,8 +9,8 @@ use Rattle.replies.specs.Pack.{packed}
 use Rattle.depot.specs.declared.Place.{Place}
 use Rattle.depot.specs.declared.Command.{Command}
 use Rattle.depot.specs.declared.Command.TheVariants as command
-use Rattle.depot.specs.declared.Made.{Made}
-use Rattle.depot.specs.declared.Made.TheVariants as answer
+use Rattle.depot.specs.declared.NotMade.{NotMade}
+use Rattle.depot.specs.declared.NotMade.TheVariants as refusal
 use Rattle.depot.specs.Limits.{within}
 
 -- a field: its value, and how many bits it has; fields side by side
@@ -95,11 +95,15 @@ pub record Sent : Type 0 where
 abbrev pub sending : ℕ → ℕ → List ℕ → Sent
 sending number bits room = record { number = number; bits = bits; room = room }
 
+-- the numbers of the refusals (RULES 5)
+abbrev pub number_of : NotMade → ℕ
+number_of refusal.Beyond = 9
+number_of refusal.NoRoom = 4
+
 -- the number and values of each answer in the code
-abbrev pub sent : Made → List ℕ → Sent
-sent (answer.Frame n) room = sending 0 n room
-sent answer.Beyond room = sending 9 0 room
-sent answer.NoRoom room = sending 4 0 room
+abbrev pub sent : Result ℕ NotMade → List ℕ → Sent
+sent (Ok n) room = sending 0 n room
+sent (Err r) room = sending (number_of r) 0 room
 
 -- MAKING: 9 for a command beyond the limits, 4 for a frame without room; else the frame's bits in the room
 unfoldable pub make_of : Command → List ℕ → ℕ → ℕ → List ℕ → Sent

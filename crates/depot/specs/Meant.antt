@@ -1,5 +1,5 @@
 -- THE TAG'S REPLIES as a depot reads them, and nothing else (RULES 12.7 and 12.8). Proof: `reads_so` in proofs/Readings. Assumes nothing.
-use Rattle.std.specs.Prelude.{ℕ, ◌+◌, ◌*◌, ◌/◌, ◌≤◌, ◌<◌, ◌≡◌, ◌⊎◌, true, List, length}
+use Rattle.std.specs.Prelude.{ℕ, ◌+◌, ◌*◌, ◌/◌, ◌≤◌, ◌<◌, ◌≡◌, ◌⊎◌, true, Option, Some, List, length}
 use Rattle.bits.specs.Words.{word_at}
 use Rattle.bits.specs.Bits.{bits_from, words_bits}
 use Rattle.replies.specs.declared.Reply.{Reply}
@@ -25,19 +25,19 @@ meant (reply.Drawn w) = told.number w
 meant (reply.Epc i k) = told.words k 0
 
 -- the replies to each kind of command, from a tag with the handle h and the image m
-pub data Replies (m : List ℕ) (h : ℕ) : Awaited → Reply → Type 0 where
-  silence : (a : Awaited) → Replies m h a reply.Silence
-  drawn : (w : ℕ) → w < 65536 → Replies m h await.Drawn (reply.Drawn w)
-  epc : (i : ℕ) → word_at m i < 65536 → Replies m h await.Epc (reply.Epc i (word_at m i / 2048 + 1))
-  renewed : (w : ℕ) → w < 65536 → Replies m h await.Renewed (reply.Number w)
-  handle : Replies m h await.Handle (reply.Number h)
-  first-half : Replies m h await.Half (reply.Number h)
-  second-half : Replies m h await.Half (reply.Success h)
-  half-error : (e : ℕ) → e < 256 → Replies m h await.Half (reply.Error e h)
-  success : Replies m h await.Done (reply.Success h)
-  error : (e : ℕ) → e < 256 → Replies m h await.Done (reply.Error e h)
-  words : (n i k : ℕ) → (n ≡ 0) ⊎ (n ≡ k) → 1 ≤ k → k ≤ 4096 → Replies m h (await.Words n) (reply.Words i k h)
-  words-error : (n e : ℕ) → e < 256 → Replies m h (await.Words n) (reply.Error e h)
+pub data Replies (m : List ℕ) (h : ℕ) : Option Awaited → Reply → Type 0 where
+  silence : (a : Option Awaited) → Replies m h a reply.Silence
+  drawn : (w : ℕ) → w < 65536 → Replies m h (Some await.Drawn) (reply.Drawn w)
+  epc : (i : ℕ) → word_at m i < 65536 → Replies m h (Some await.Epc) (reply.Epc i (word_at m i / 2048 + 1))
+  renewed : (w : ℕ) → w < 65536 → Replies m h (Some await.Renewed) (reply.Number w)
+  handle : Replies m h (Some await.Handle) (reply.Number h)
+  first-half : Replies m h (Some await.Half) (reply.Number h)
+  second-half : Replies m h (Some await.Half) (reply.Success h)
+  half-error : (e : ℕ) → e < 256 → Replies m h (Some await.Half) (reply.Error e h)
+  success : Replies m h (Some await.Done) (reply.Success h)
+  error : (e : ℕ) → e < 256 → Replies m h (Some await.Done) (reply.Error e h)
+  words : (n i k : ℕ) → (n ≡ 0) ⊎ (n ≡ k) → 1 ≤ k → k ≤ 4096 → Replies m h (Some (await.Words n)) (reply.Words i k h)
+  words-error : (n e : ℕ) → e < 256 → Replies m h (Some (await.Words n)) (reply.Error e h)
 
 abbrev pub IsRefused : Told → Type 0
 IsRefused (told.error e) = ⊥

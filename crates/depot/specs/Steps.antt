@@ -21,12 +21,14 @@ ebv p =
 abbrev pub plain : ℕ → ℕ → ℕ → Layout
 plain v n k = record { front = field v n; middle = field 0 0; back = field 0 0; body = 0; tail = field 0 0; check = k }
 
+abbrev pub placed : ℕ → ℕ → Place → Layout
+placed v n p = record (plain (v * 4 + p.bank % 4) (n + 2) 0) { middle = ebv p.pointer }
+
 abbrev pub addressed : Field → Field → Field → ℕ → ℕ → Layout
 addressed front middle back h k = record { front = front; middle = middle; back = back; body = 0; tail = field h 16; check = k }
 
 abbrev pub pointing : ℕ → ℕ → Place → Field → ℕ → ℕ → Layout
-pointing v n p back body h =
-    record { front = field (v * 4 + p.bank % 4) (n + 2); middle = ebv p.pointer; back = back; body = body; tail = field h 16; check = 16 }
+pointing v n p back body h = record (placed v n p) { back = back; body = body; tail = field h 16; check = 16 }
 
 abbrev pub select_of : ℕ → ℕ → Place → ℕ → Layout
 select_of t a p l =

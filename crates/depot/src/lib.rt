@@ -2,7 +2,7 @@
 #![tactic(auto)]
 
 ghost use Rattle.std.specs.Prelude.{◌≡◌};
-ghost use Rattle.depot.specs.Making.{sent, make_of};
+ghost use Rattle.depot.specs.Making.{number_of, sent, make_of};
 ghost use Rattle.readings.specs.Reading.{meaning};
 ghost use Rattle.depot.specs.Reading.{read_of};
 
@@ -11,7 +11,8 @@ mod laying;
 mod limits;
 mod putting;
 
-pub use readings::Reading;
+use readings::Reply;
+pub use readings::{NotRead, Reading};
 
 // Where words of a bank begin, or bits.
 #[derive(Clone, Copy)]
@@ -54,45 +55,68 @@ pub enum Command {
     Permalock(Place),
 }
 
-// What making answers.
-#[derive(Clone, Copy)]
-pub enum Made {
-    // The bits of the frame.
-    Frame(usize),
+// Why a frame is not made.
+#[derive(Clone, Copy, Debug, PartialEq, Eq)]
+pub enum NotMade {
     // 9: the command is beyond the limits.
     Beyond,
     // 4: the room has fewer bytes than the frame.
     NoRoom,
 }
 
-// The frame of a command, with the number that it carries and a cover number, into the room.
-pub fn make(command: Command, payload: &[u8], number: u16, cover: u16, room: &mut [u8]) -> Made
+impl From<NotMade> for usize {
+    ghost from_gives = { λ refusal n. n ≡ number_of refusal };
+
+    fn from(refusal: NotMade) -> usize {
+        match refusal {
+            NotMade::Beyond => 9,
+            NotMade::NoRoom => 4,
+        }
+    }
+}
+
+// The frame of a command, with the number that it carries and a cover number, into the room; how many bits it has.
+pub fn make(
+    command: Command,
+    payload: &[u8],
+    number: u16,
+    cover: u16,
+    room: &mut [u8],
+) -> Result<usize, NotMade>
     ensures { sent result room.new ≡ make_of command payload.now number cover room.old }
 {
     if !limits::within(command, payload.len()) {
-        return Made::Beyond;
+        return Err(NotMade::Beyond);
     }
     let l = laying::lay(command, number, cover, payload.len());
-    let n = laying::total(l);
-    if room.len() < (n + 7) / 8 {
-        return Made::NoRoom;
+    let n = l.total();
+    if room.len() < n.div_ceil(8) {
+        return Err(NotMade::NoRoom);
     }
     putting::put(room, l, payload);
-    Made::Frame(n)
+    Ok(n)
 }
 
 // What n bits of lent bytes say as a reply to a command, with the number that it carried.
-pub fn read(command: Command, payload: &[u8], number: u16, n: usize, bytes: &[u8]) -> Reading
+pub fn read(
+    command: Command,
+    payload: &[u8],
+    number: u16,
+    n: usize,
+    bytes: &[u8],
+) -> Result<Reading, NotRead>
     ensures { meaning result ≡ read_of command payload.now number n bytes.now }
 {
     if !limits::within(command, payload.len()) {
-        return Reading::Beyond;
+        return Err(NotRead::Beyond);
     }
-    if n < 16 {
-        return Reading::Checksum;
+    if n < 16 || bytes.len() < n.div_ceil(8) {
+        return Err(NotRead::Checksum);
     }
-    if bytes.len() <= (n - 1) / 8 {
-        return Reading::Checksum;
-    }
-    readings::told(awaiting::kind_of(command), number, n, bytes)
+    let reply = Reply {
+        bytes,
+        bits: n,
+        handle: number,
+    };
+    reply.told(awaiting::kind_of(command))
 }

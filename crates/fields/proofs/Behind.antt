@@ -2,7 +2,7 @@
 use Prim.Native.Nat.{ℕ, zero, suc, ◌+◌, ◌-◌, ◌*◌, ◌/◌, ◌%◌, ◌^◌, ◌<◌, ◌≤◌}
 use mathlib.Core.Path.{◌≡◌, refl, sym, ap, ap₂, ◌∙◌}
 use mathlib.Core.List.{List, [], ◌∷◌, ◌++◌, append_assoc, append-nil}
-use native.Mathlib.Nat.{suc-add, add-mul, mul_assoc, pow-suc, zero-mul, add-zero, div-one}
+use native.Mathlib.Nat.{suc-add, add-mul, mul_assoc, pow-suc, zero-mul, add-zero}
 use native.Mathlib.Numerals.{add-one}
 use native.Mathlib.Omega.{arith}
 use lib.ListN.{length, get_or, set, take, drop, length-append, length-drop, take-append-drop}
@@ -118,9 +118,6 @@ field-more n k v h =
     let b : n - (k + 1) ≡ n - 1 - k = omega arith in
     bits-split k 1 (v / 2 ^ (n - (k + 1)))
     ∙ ap₂ (λ (x y : ℕ). bits_of k x ++ bits_of 1 y) (shr-shr v (n - (k + 1)) 1 ∙ ap (λ (x : ℕ). v / 2 ^ x) a) (ap (λ (x : ℕ). v / 2 ^ x) b)
-
-pub all-bits : (n k v : ℕ) → k ≡ n → bits_of k (v / 2 ^ (n - k)) ≡ bits_of n v
-all-bits n k v e = let z : n - n ≡ 0 = omega arith in rw (e, z, div-one v)
 
 -- where a loop over a number's bits begins
 pub start : (i n v : ℕ) (room : List ℕ) → Goes room i (bits_of 0 (v / 2 ^ (n - 0))) room

@@ -1,6 +1,7 @@
 -- Bits put into a room behind others, as the code puts them. Assumes nothing.
-use Rattle.std.specs.Prelude.{ℕ, ◌+◌, ◌*◌, ◌/◌, ◌^◌, ◌-◌, ◌≡◌, cond, List, ◌++◌, eqb, length, take}
+use Rattle.std.specs.Prelude.{ℕ, ◌+◌, ◌*◌, ◌/◌, ◌^◌, ◌-◌, ◌≡◌, cond, Option, Some, None, List, ◌++◌, eqb, length, take}
 use Rattle.bits.specs.Bits.{bits_of}
+use Rattle.crc.specs.Crc.{crc_of}
 use Rattle.crc.specs.Crc5.{crc5_of}
 use Rattle.replies.specs.Replies.{checked}
 use Rattle.replies.specs.Pack.{packed}
@@ -13,6 +14,10 @@ field_bits f = bits_of f.bits f.value
 -- bits with a check of so many bits behind them: a CRC-16, a CRC-5 over the first 17, or none
 abbrev pub seal_bits : ℕ → List ℕ → List ℕ
 seal_bits k bs = cond (eqb k 16) (checked bs) (cond (eqb k 5) (bs ++ bits_of 5 (crc5_of (take 17 bs))) bs)
+
+-- the number of a check of so many bits, where there is one
+abbrev pub check_of : ℕ → List ℕ → Option ℕ
+check_of k bs = cond (eqb k 16) (Some (crc_of bs)) (cond (eqb k 5) (Some (crc5_of (take 17 bs))) None)
 
 -- one byte with a bit behind its first k
 abbrev pub with_bit : ℕ → ℕ → ℕ → ℕ

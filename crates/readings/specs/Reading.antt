@@ -1,11 +1,13 @@
 -- WHAT A REPLY SAYS to a depot (RULES 12.4 and 12.5): n bits in the bytes m, answering a command with the number h. Assumes nothing.
-use Rattle.std.specs.Prelude.{ℕ, ◌+◌, ◌-◌, ◌*◌, ◌/◌, Bool, cond, not, ◌&&◌, List, [], ◌∷◌, eqb, ltb}
+use Rattle.std.specs.Prelude.{ℕ, ◌+◌, ◌-◌, ◌*◌, ◌/◌, Bool, cond, not, ◌&&◌, Option, Some, None, Result, Ok, Err, List, [], ◌∷◌, eqb, ltb}
 use Rattle.bits.specs.Bits.{field_at}
 use Rattle.frames.specs.Frames.{checksum_right}
 use Rattle.readings.specs.declared.Awaited.{Awaited}
 use Rattle.readings.specs.declared.Awaited.TheVariants as await
 use Rattle.readings.specs.declared.Reading.{Reading}
 use Rattle.readings.specs.declared.Reading.TheVariants as answer
+use Rattle.readings.specs.declared.NotRead.{NotRead}
+use Rattle.readings.specs.declared.NotRead.TheVariants as refusal
 
 -- an error code; words: how many, and the bit where they begin; a number; done; or a number of the answer table
 pub data Told : Type 0 where
@@ -15,15 +17,19 @@ pub data Told : Type 0 where
   done : Told
   refused : ℕ → Told
 
--- the number and values of each answer in the code
-abbrev pub meaning : Reading → Told
-meaning (answer.Error e) = error e
-meaning (answer.Words k i) = words k i
-meaning (answer.Number w) = number w
-meaning answer.Done = done
-meaning answer.Beyond = refused 9
-meaning answer.Checksum = refused 8
-meaning answer.Other = refused 15
+-- the numbers of the refusals (RULES 5)
+abbrev pub number_of : NotRead → ℕ
+number_of refusal.Beyond = 9
+number_of refusal.Checksum = 8
+number_of refusal.Other = 15
+
+-- the values of each answer in the code
+abbrev pub meaning : Result Reading NotRead → Told
+meaning (Ok (answer.Error e)) = error e
+meaning (Ok (answer.Words k i)) = words k i
+meaning (Ok (answer.Number w)) = number w
+meaning (Ok answer.Done) = done
+meaning (Err r) = refused (number_of r)
 
 -- THE REPLIES that a reader awaits: what each says, and when it is that reply
 abbrev pub Row : Type 0
@@ -61,13 +67,13 @@ module _ (h n : ℕ) (m : List ℕ) where
   abbrev pub wrong_sum : Row
   wrong_sum = (refused 8, not (checksum_right m n))
 
-  -- by the kind of reply that is awaited
-  abbrev pub rows_of : Awaited → List Row
-  rows_of await.Drawn = drawn ∷ []
-  rows_of await.Epc = wrong_sum ∷ epc ∷ []
-  rows_of await.Renewed = wrong_sum ∷ renewed ∷ []
-  rows_of await.Handle = wrong_sum ∷ handle ∷ []
-  rows_of await.Half = wrong_sum ∷ handle ∷ success ∷ failure ∷ []
-  rows_of await.Done = wrong_sum ∷ success ∷ failure ∷ []
-  rows_of (await.Words k) = wrong_sum ∷ shown (asked k) ∷ failure ∷ []
-  rows_of await.Nothing = wrong_sum ∷ []
+  -- by the kind of reply that is awaited, or none
+  abbrev pub rows_of : Option Awaited → List Row
+  rows_of (Some await.Drawn) = drawn ∷ []
+  rows_of (Some await.Epc) = wrong_sum ∷ epc ∷ []
+  rows_of (Some await.Renewed) = wrong_sum ∷ renewed ∷ []
+  rows_of (Some await.Handle) = wrong_sum ∷ handle ∷ []
+  rows_of (Some await.Half) = wrong_sum ∷ handle ∷ success ∷ failure ∷ []
+  rows_of (Some await.Done) = wrong_sum ∷ success ∷ failure ∷ []
+  rows_of (Some (await.Words k)) = wrong_sum ∷ shown (asked k) ∷ failure ∷ []
+  rows_of None = wrong_sum ∷ []

@@ -61,7 +61,7 @@ use Rattle.depot.proofs.Readings.{reads_so}
 use Rattle.talks.specs.Talks.{Hearing, input_of, given, Answered}
 
 -- by its error code: an error with the handle, or the reply
-coded : (m : List ℕ) (n : ℕ) (a : Awaited) (k : Code) (handle : ℕ) (r : Reply) → handle ≡ n → ((e : ℕ) → e < 256 → Replies m n a (reply.Error e n))
+coded : (m : List ℕ) (n : ℕ) (a : Option Awaited) (k : Code) (handle : ℕ) (r : Reply) → handle ≡ n → ((e : ℕ) → e < 256 → Replies m n a (reply.Error e n))
     → (k ≡ code.Nothing → Replies m n a r) → Replies m n a (reply_or k handle r)
 coded m n a code.Nothing handle r e f g = g refl
 coded m n a (code.Error fault.Other) handle r e f g = rw e (f 0 (omega arith))
@@ -70,16 +70,16 @@ coded m n a (code.Error fault.NoRight) handle r e f g = rw e (f 4 (omega arith))
 
 -- a tag that comes to Reply draws the fresh word; else it is silent
 draws : (m : List ℕ) (n fresh : ℕ) → fresh < 65536 → (ready again : Bool) (q : Round) (slot : ℕ)
-    → Replies m n await.Drawn (drawn_reply (cond ready state.Ready (cond again (state.Reply q fresh) (state.Arbitrate q slot))))
-draws m n fresh w true again q slot = answers.silence await.Drawn
+    → Replies m n (Some await.Drawn) (drawn_reply (cond ready state.Ready (cond again (state.Reply q fresh) (state.Arbitrate q slot))))
+draws m n fresh w true again q slot = answers.silence (Some await.Drawn)
 draws m n fresh w false true q slot = answers.drawn fresh w
-draws m n fresh w false false q slot = answers.silence await.Drawn
+draws m n fresh w false false q slot = answers.silence (Some await.Drawn)
 
 queries : (m : List ℕ) (n fresh : ℕ) → fresh < 65536 → (match again : Bool) (q : Round) (slot : ℕ)
-    → Replies m n await.Drawn (drawn_reply (cond match (cond again (state.Reply q fresh) (state.Arbitrate q slot)) state.Ready))
+    → Replies m n (Some await.Drawn) (drawn_reply (cond match (cond again (state.Reply q fresh) (state.Arbitrate q slot)) state.Ready))
 queries m n fresh w true true q slot = answers.drawn fresh w
-queries m n fresh w true false q slot = answers.silence await.Drawn
-queries m n fresh w false again q slot = answers.silence await.Drawn
+queries m n fresh w true false q slot = answers.silence (Some await.Drawn)
+queries m n fresh w false again q slot = answers.silence (Some await.Drawn)
 
 -- the number that a command carries is the tag's own
 own : (a b c d : Bool) → not (a && b) || c || d ≡ false → b ≡ true
@@ -120,10 +120,10 @@ module _ (y : Layout) (m : List ℕ) (q : Bool) (p : Place) (k : ℕ) (g : Good 
       go true false e = l
       go false b e = l
 
-  shown-words : (n o : ℕ) → read_code y m q s ≡ code.Nothing → Replies m n (await.Words k) (reply.Words o (span_words y m s) n)
+  shown-words : (n o : ℕ) → read_code y m q s ≡ code.Nothing → Replies m n (Some (await.Words k)) (reply.Words o (span_words y m s) n)
   shown-words n o e = go (eqb k 0) refl
     where
-      go : (b : Bool) → eqb k 0 ≡ b → Replies m n (await.Words k) (reply.Words o (cond b (read_end y m p.bank p.pointer - p.pointer) k) n)
+      go : (b : Bool) → eqb k 0 ≡ b → Replies m n (Some (await.Words k)) (reply.Words o (cond b (read_end y m p.bank p.pointer - p.pointer) k) n)
       go true z =
           answers.words k o (read_end y m p.bank p.pointer - p.pointer) (inl (eqb-true k 0 z)) (omega (arith, ends-after (inside e).0))
           (omega (arith, read-ends y m p.bank p.pointer pc-fits, most y m p.bank g))
@@ -139,7 +139,7 @@ Handled n (reply.Error e h) = Unit {0}
 Handled n (reply.Drawn w) = Unit {0}
 Handled n (reply.Epc i k) = Unit {0}
 
-handle-of : (m : List ℕ) (n : ℕ) (a : Awaited) (r : Reply) → Replies m n a r → Handled n r
+handle-of : (m : List ℕ) (n : ℕ) (a : Option Awaited) (r : Reply) → Replies m n a r → Handled n r
 handle-of m n a r (answers.silence b) = tt
 handle-of m n a r (answers.drawn w b) = tt
 handle-of m n a r (answers.epc i b) = tt
@@ -167,7 +167,7 @@ module _ (c : Call) (into : List ℕ) (h : Hearing) (e : (made c into).number �
   abbrev st : State
   st = state_of i
 
-  abbrev kind : Awaited
+  abbrev kind : Option Awaited
   kind = awaited_by c.command
 
   limits : Within c.command (length c.payload)
@@ -179,14 +179,14 @@ module _ (c : Call) (into : List ℕ) (h : Hearing) (e : (made c into).number �
 
   module _ (g : Good (layout_of h.image) h.image) where
     half-kill : (w : ℕ) (x : Option Half) → (link_of st).handle ≡ c.number
-        → Replies m c.number await.Half (reply_or (half_kill (scene i) w x).code (link_of st).handle (half_kill (scene i) w x).reply)
+        → Replies m c.number (Some await.Half) (reply_or (half_kill (scene i) w x).code (link_of st).handle (half_kill (scene i) w x).reply)
     half-kill w None z =
-        coded m c.number await.Half (cond (zero_kill y m) (code.Error fault.Other) code.Nothing) (link_of st).handle (reply.Number (link_of st).handle) z answers.half-error (λ k. rw z answers.first-half)
+        coded m c.number (Some await.Half) (cond (zero_kill y m) (Err fault.Other) (Ok tt)) (link_of st).handle (reply.Number (link_of st).handle) z answers.half-error (λ k. rw z answers.first-half)
     half-kill w (Some (half.Kill up)) z = rw z answers.second-half
     half-kill w (Some (half.Access up)) z = rw z answers.first-half
 
     half-access : (w : ℕ) (x : Option Half) → (link_of st).handle ≡ c.number
-        → Replies m c.number await.Handle (reply_or (half_access (scene i) w x).code (link_of st).handle (half_access (scene i) w x).reply)
+        → Replies m c.number (Some await.Handle) (reply_or (half_access (scene i) w x).code (link_of st).handle (half_access (scene i) w x).reply)
     half-access w None z = rw z answers.handle
     half-access w (Some (half.Kill up)) z = rw z answers.handle
     half-access w (Some (half.Access up)) z = rw z answers.handle
@@ -195,14 +195,14 @@ module _ (c : Call) (into : List ℕ) (h : Hearing) (e : (made c into).number �
     abbrev Passes : Command → Type 0
     Passes o = wrong_by st (carried o c.number) (asks_of (order_of o (length c.payload) c.number c.cover)) ≡ false
 
-    done : (k : Code) → (link_of st).handle ≡ c.number → Replies m c.number await.Done (reply_or k (link_of st).handle (reply.Success (link_of st).handle))
-    done k z = coded m c.number await.Done k (link_of st).handle (reply.Success (link_of st).handle) z answers.error (λ x. rw z answers.success)
+    done : (k : Code) → (link_of st).handle ≡ c.number → Replies m c.number (Some await.Done) (reply_or k (link_of st).handle (reply.Success (link_of st).handle))
+    done k z = coded m c.number (Some await.Done) k (link_of st).handle (reply.Success (link_of st).handle) z answers.error (λ x. rw z answers.success)
 
-    acked : (b : Bool) → Replies m c.number await.Epc
+    acked : (b : Bool) → Replies m c.number (Some await.Epc)
         (reply_or (cond b (does (scene i) (acknowledged st) (reply.Epc (y.epc.at + 1) (length_of (pc_word y m) + 1)) []) (turns (live i).flags (fallen st))).code (link_of st).handle
         (cond b (does (scene i) (acknowledged st) (reply.Epc (y.epc.at + 1) (length_of (pc_word y m) + 1)) []) (turns (live i).flags (fallen st))).reply)
     acked true = answers.epc (y.epc.at + 1) (omega (arith, (g.content 0).pc, g.header.epc.most))
-    acked false = answers.silence await.Epc
+    acked false = answers.silence (Some await.Epc)
 
     abbrev told : Command → Order
     told o = order_of o (length c.payload) c.number c.cover
@@ -213,7 +213,7 @@ module _ (c : Call) (into : List ℕ) (h : Hearing) (e : (made c into).number �
     secured-own : (bad : Bool) → not (is_secured st && eqb (link_of st).handle c.number) || (false && not (is_covered (link_of st).cover)) || bad ≡ false → (link_of st).handle ≡ c.number
     secured-own bad w = eqb-true (link_of st).handle c.number (own (is_secured st) (eqb (link_of st).handle c.number) false bad w)
 
-    stored : (o : Command) → (link_of st).handle ≡ c.number → Replies m c.number await.Done (reply_or (effect_of (scene i) (told o)).code (link_of st).handle (reply.Success (link_of st).handle))
+    stored : (o : Command) → (link_of st).handle ≡ c.number → Replies m c.number (Some await.Done) (reply_or (effect_of (scene i) (told o)).code (link_of st).handle (reply.Success (link_of st).handle))
     stored o z = done (effect_of (scene i) (told o)).code z
 
     replies-to : (o : Command) → Within o (length c.payload) → Passes o → Replies m c.number (awaited_by o) (reply_to (told o))
@@ -225,12 +225,12 @@ module _ (c : Call) (into : List ℕ) (h : Hearing) (e : (made c into).number �
     replies-to (command.QueryAdjust k u) l w =
         let q : Round = record { session = (link_of st).round.session; q = adjusted_q u (link_of st).round.q } in
         draws m c.number h.fresh h.word (was_acknowledged st) (eqb (slot_from q h.fresh) 0) q (slot_from q h.fresh)
-    replies-to (command.Select t a p x) l w = answers.silence await.Nothing
-    replies-to command.Nak l w = answers.silence await.Nothing
+    replies-to (command.Select t a p x) l w = answers.silence _
+    replies-to command.Nak l w = answers.silence _
     replies-to command.ReqRn l w = answers.renewed h.fresh h.word
     replies-to (command.Read p k) l w =
         let z = linked-own false false w in
-        coded m c.number (await.Words k) (read_code y m (is_secured st) (span p.bank p.pointer k)) (link_of st).handle
+        coded m c.number (Some (await.Words k)) (read_code y m (is_secured st) (span p.bank p.pointer k)) (link_of st).handle
         (reply.Words (place_of y (span p.bank p.pointer k)) (span_words y m (span p.bank p.pointer k)) (link_of st).handle) z (answers.words-error k)
         (λ x. rw z (shown-words y m (is_secured st) p k g l.1 c.number (place_of y (span p.bank p.pointer k)) x))
     replies-to (command.Write p x) l w = stored (command.Write p x) (linked-own true false w)
@@ -241,7 +241,7 @@ module _ (c : Call) (into : List ℕ) (h : Hearing) (e : (made c into).number �
     replies-to (command.BlockErase p k) l w = stored (command.BlockErase p k) (linked-own false (eqb k 0) w)
     replies-to (command.ReadPermalock p k) l w =
         let z = secured-own (not (eqb 0 0) || eqb k 0) w in
-        coded m c.number (await.Words k) (perma_read_code y (span p.bank p.pointer k)) (link_of st).handle (reply.Words (y.perma.at + p.pointer) k (link_of st).handle) z (answers.words-error k)
+        coded m c.number (Some (await.Words k)) (perma_read_code y (span p.bank p.pointer k)) (link_of st).handle (reply.Words (y.perma.at + p.pointer) k (link_of st).handle) z (answers.words-error k)
         (λ x. rw z (answers.words k (y.perma.at + p.pointer) k (inr refl) l.1.0 (omega (arith, l.1.1))))
     replies-to (command.Permalock p) l w = stored (command.Permalock p) (secured-own (not (eqb 0 0) || eqb (length c.payload / 2) 0) w)
 

@@ -1,15 +1,16 @@
 -- `depot::make` meets its contract. Assumes nothing.
 use Rattle.depot.proofs.Answers.{make-beyond, make-short, make-whole}
 use Rattle.depot.specs.Steps.{total_of}
-use borrow.Author.Tests.{not-true, not-false}
-use mathlib.Core.Path.{sym, ap, ◌∙◌}
+use borrow.Author.Rules.{rules}
+use mathlib.Core.Path.{ap, ◌∙◌}
+use native.Mathlib.Omega.{arith}
 use Rattle.depot.proofs.make.Goals as goal
 
 pub returns-then-not-within : goal.returns-then-not-within
-returns-then-not-within c = make-beyond c.args.command c.args.payload.now c.args.number c.args.cover c.args.room.now (sym c.within.ensures ∙ not-true c.within.result c.if-not-within.true-raw)
+returns-then-not-within c = make-beyond c.args.command c.args.payload.now c.args.number c.args.cover c.args.room.now (search rules)
 
-pub returns-then-room-n : goal.returns-then-room-n
-returns-then-room-n c = make-short c.args.command c.args.payload.now c.args.number c.args.cover c.args.room.now (sym c.within.ensures ∙ not-false c.within.result c.if-not-within.false-raw) c.total-n.result (c.total-n.ensures ∙ ap total_of c.lay-l.ensures) c.if-room-n.true
+pub returns-then-room-div_ceil : goal.returns-then-room-div_ceil
+returns-then-room-div_ceil c = make-short c.args.command c.args.payload.now c.args.number c.args.cover c.args.room.now (search rules) c.total-n.result (c.total-n.ensures ∙ ap total_of c.lay-l.ensures) (omega (arith, c.div_ceil.ensures, c.if-room-div_ceil.true))
 
 pub returns : goal.returns
-returns c = make-whole c.args.command c.args.payload.now c.args.number c.args.cover c.args.room.now (sym c.within.ensures ∙ not-false c.within.result c.if-not-within.false-raw) c.total-n.result (c.total-n.ensures ∙ ap total_of c.lay-l.ensures) c.if-room-n.false _ (rw (← c.lay-l.ensures) c.put.ensures)
+returns c = make-whole c.args.command c.args.payload.now c.args.number c.args.cover c.args.room.now (search rules) c.total-n.result (c.total-n.ensures ∙ ap total_of c.lay-l.ensures) (omega (arith, c.div_ceil.ensures, c.if-room-div_ceil.false)) _ (rw (← c.lay-l.ensures) c.put.ensures)
