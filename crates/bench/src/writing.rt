@@ -6,6 +6,7 @@ use std::io::Write;
 use tag::{Cover, Flags, Half, Link, Live, Outcome, Power, Register, Round, Session, State};
 
 // A cover number.
+#[derive(Clone, Copy)]
 struct CoverText(Cover);
 
 impl fmt::Display for CoverText {
@@ -18,6 +19,7 @@ impl fmt::Display for CoverText {
 }
 
 // The half of a password that waits.
+#[derive(Clone, Copy)]
 struct HalfText(Half);
 
 impl fmt::Display for HalfText {
@@ -31,6 +33,7 @@ impl fmt::Display for HalfText {
 }
 
 // The handle, the cover number and the waiting half.
+#[derive(Clone, Copy)]
 struct LinkText(Link);
 
 impl fmt::Display for LinkText {
@@ -43,6 +46,7 @@ impl fmt::Display for LinkText {
 }
 
 // A state, and the numbers that it holds beside its round.
+#[derive(Clone, Copy)]
 struct StateText(State);
 
 impl fmt::Display for StateText {
@@ -65,6 +69,7 @@ fn bits_of(r: Register) -> u8 {
 }
 
 // A round's Q and session.
+#[derive(Clone, Copy)]
 struct RoundText(Round);
 
 impl fmt::Display for RoundText {
@@ -75,6 +80,7 @@ impl fmt::Display for RoundText {
 }
 
 // Slot, Q and round of a state.
+#[derive(Clone, Copy)]
 struct PlaceText(State);
 
 impl fmt::Display for PlaceText {
@@ -96,6 +102,7 @@ fn letter(is_b: bool) -> char {
 }
 
 // The inventoried flags, and SL.
+#[derive(Clone, Copy)]
 struct FlagsText(Flags);
 
 impl fmt::Display for FlagsText {
@@ -109,6 +116,7 @@ impl fmt::Display for FlagsText {
 }
 
 // A session under power: the state, whether the port is held, the register, the place and the flags.
+#[derive(Clone, Copy)]
 struct LiveText(Live);
 
 impl fmt::Display for LiveText {
@@ -126,6 +134,7 @@ impl fmt::Display for LiveText {
     }
 }
 
+#[derive(Clone, Copy)]
 struct SessionText(Session);
 
 impl fmt::Display for SessionText {

@@ -71,6 +71,7 @@ impl fmt::Display for Sent {
 }
 
 // Words in hex, each after a space.
+#[derive(Clone, Copy)]
 struct Words<'a>(&'a [u16]);
 
 impl fmt::Display for Words<'_> {
@@ -83,6 +84,7 @@ impl fmt::Display for Words<'_> {
 }
 
 // A state's name, and its slot where it has one.
+#[derive(Clone, Copy)]
 struct StateText(State);
 
 impl fmt::Display for StateText {
@@ -99,6 +101,7 @@ impl fmt::Display for StateText {
     }
 }
 
+#[derive(Clone, Copy)]
 struct SessionText(Session);
 
 impl fmt::Display for SessionText {
@@ -111,6 +114,7 @@ impl fmt::Display for SessionText {
 }
 
 // How far a write of 23 stores has come: 14 stage its pairs, one announces them, 7 are the words themselves, and the last ends it.
+#[derive(Clone, Copy)]
 struct Made(usize);
 
 impl fmt::Display for Made {
@@ -127,6 +131,7 @@ impl fmt::Display for Made {
 }
 
 // What an answer that the story doesn't have was given to.
+#[derive(Clone, Copy)]
 pub struct Failed(pub Unlike);
 
 impl fmt::Display for Failed {
