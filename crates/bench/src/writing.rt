@@ -1,216 +1,176 @@
 // How a call's outcome and the session are written.
-use lines::output::{byte, hex, labelled, text, word};
+use lines::output;
+use std::fmt;
 use std::io;
+use std::io::Write;
 use tag::{Cover, Flags, Half, Link, Live, Outcome, Power, Register, Round, Session, State};
 
-fn put_cover(rt: &impl Print, out: &mut [u8; 65536], at: usize, c: Cover) -> io::Result<usize> {
-    match c {
-        Cover::Nothing => text(rt, out, at, b"-"),
-        Cover::Number(w) => word(rt, out, at, w),
+// A cover number.
+#[derive(Clone, Copy)]
+struct CoverText(Cover);
+
+impl fmt::Display for CoverText {
+    fn fmt<W: fmt::Write>(&self, f: &mut fmt::Formatter<W>) -> fmt::Result {
+        match self.0 {
+            Cover::Nothing => f.write_str("-"),
+            Cover::Number(w) => write!(f, "{w:04x}"),
+        }
     }
 }
 
-fn put_half(rt: &impl Print, out: &mut [u8; 65536], at: usize, h: Half) -> io::Result<usize> {
-    match h {
-        Half::Nothing => text(rt, out, at, b"-"),
-        Half::Access(w) => {
-            let q = text(rt, out, at, b"access:")?;
-            word(rt, out, q, w)
-        }
-        Half::Kill(w) => {
-            let q = text(rt, out, at, b"kill:")?;
-            word(rt, out, q, w)
+// The half of a password that waits.
+#[derive(Clone, Copy)]
+struct HalfText(Half);
+
+impl fmt::Display for HalfText {
+    fn fmt<W: fmt::Write>(&self, f: &mut fmt::Formatter<W>) -> fmt::Result {
+        match self.0 {
+            Half::Nothing => f.write_str("-"),
+            Half::Access(w) => write!(f, "access:{w:04x}"),
+            Half::Kill(w) => write!(f, "kill:{w:04x}"),
         }
     }
 }
 
 // The handle, the cover number and the waiting half.
-fn put_link(rt: &impl Print, out: &mut [u8; 65536], at: usize, k: Link) -> io::Result<usize> {
-    let c = k.cover;
-    let h = k.half;
-    let q = word(rt, out, at, k.handle)?;
-    let q2 = byte(rt, out, q, b' ')?;
-    let q3 = put_cover(rt, out, q2, c)?;
-    let q4 = byte(rt, out, q3, b' ')?;
-    put_half(rt, out, q4, h)
+#[derive(Clone, Copy)]
+struct LinkText(Link);
+
+impl fmt::Display for LinkText {
+    fn fmt<W: fmt::Write>(&self, f: &mut fmt::Formatter<W>) -> fmt::Result {
+        let Link {
+            handle, cover, half, ..
+        } = self.0;
+        write!(f, "{handle:04x} {} {}", CoverText(cover), HalfText(half))
+    }
 }
 
-// A state's name, and the number that it replied.
-fn put_replied(
-    rt: &impl Print,
-    out: &mut [u8; 65536],
-    at: usize,
-    name: &[u8],
-    w: u16,
-) -> io::Result<usize> {
-    let q = text(rt, out, at, name)?;
-    let q2 = word(rt, out, q, w)?;
-    text(rt, out, q2, b" - -")
-}
+// A state, and the numbers that it holds beside its round.
+#[derive(Clone, Copy)]
+struct StateText(State);
 
-fn put_state(rt: &impl Print, out: &mut [u8; 65536], at: usize, s: State) -> io::Result<usize> {
-    match s {
-        State::Ready => text(rt, out, at, b"ready - - -"),
-        State::Arbitrate(_, _) => text(rt, out, at, b"arbitrate - - -"),
-        State::Reply(_, w) => put_replied(rt, out, at, b"reply ", w),
-        State::Acknowledged(_, w) => put_replied(rt, out, at, b"acknowledged ", w),
-        State::Open(k) => {
-            let q = text(rt, out, at, b"open ")?;
-            put_link(rt, out, q, k)
+impl fmt::Display for StateText {
+    fn fmt<W: fmt::Write>(&self, f: &mut fmt::Formatter<W>) -> fmt::Result {
+        match self.0 {
+            State::Ready => f.write_str("ready - - -"),
+            State::Arbitrate(_, _) => f.write_str("arbitrate - - -"),
+            State::Reply(_, w) => write!(f, "reply {w:04x} - -"),
+            State::Acknowledged(_, w) => write!(f, "acknowledged {w:04x} - -"),
+            State::Open(link) => write!(f, "open {}", LinkText(link)),
+            State::Secured(link) => write!(f, "secured {}", LinkText(link)),
+            State::Killed => f.write_str("killed - - -"),
         }
-        State::Secured(k) => {
-            let q = text(rt, out, at, b"secured ")?;
-            put_link(rt, out, q, k)
-        }
-        State::Killed => text(rt, out, at, b"killed - - -"),
     }
 }
 
 // The register's two bits as a number.
-fn bits_of(r: Register) -> u64 {
-    if r.unwritten {
-        if r.killed {
-            return 3;
-        }
-        return 2;
-    }
-    if r.killed {
-        return 1;
-    }
-    0
-}
-
-// Whether the port is held, and the register.
-fn put_port(
-    rt: &impl Print,
-    out: &mut [u8; 65536],
-    at: usize,
-    held: bool,
-    r: Register,
-) -> io::Result<usize> {
-    if held {
-        return labelled(rt, out, at, b" held ", bits_of(r));
-    }
-    labelled(rt, out, at, b" free ", bits_of(r))
-}
-
-fn put_slot(rt: &impl Print, out: &mut [u8; 65536], at: usize, slot: u16) -> io::Result<usize> {
-    labelled(rt, out, at, b" ", slot as u64)
+fn bits_of(r: Register) -> u8 {
+    u8::from(r.unwritten) * 2 + u8::from(r.killed)
 }
 
 // A round's Q and session.
-fn put_round(rt: &impl Print, out: &mut [u8; 65536], at: usize, r: Round) -> io::Result<usize> {
-    let q = labelled(rt, out, at, b" ", r.q as u64)?;
-    labelled(rt, out, q, b" s", r.session as u64)
-}
+#[derive(Clone, Copy)]
+struct RoundText(Round);
 
-// The round of a state that has no slot.
-fn put_turn(rt: &impl Print, out: &mut [u8; 65536], at: usize, r: Round) -> io::Result<usize> {
-    let q = text(rt, out, at, b" -")?;
-    put_round(rt, out, q, r)
+impl fmt::Display for RoundText {
+    fn fmt<W: fmt::Write>(&self, f: &mut fmt::Formatter<W>) -> fmt::Result {
+        let Round { q, session, .. } = self.0;
+        write!(f, "{q} s{session}")
+    }
 }
 
 // Slot, Q and round of a state.
-fn put_place(rt: &impl Print, out: &mut [u8; 65536], at: usize, s: State) -> io::Result<usize> {
-    match s {
-        State::Ready => text(rt, out, at, b" - - -"),
-        State::Arbitrate(r, slot) => {
-            let q = put_slot(rt, out, at, slot)?;
-            put_round(rt, out, q, r)
+#[derive(Clone, Copy)]
+struct PlaceText(State);
+
+impl fmt::Display for PlaceText {
+    fn fmt<W: fmt::Write>(&self, f: &mut fmt::Formatter<W>) -> fmt::Result {
+        match self.0 {
+            State::Ready | State::Killed => f.write_str("- - -"),
+            State::Arbitrate(round, slot) => write!(f, "{slot} {}", RoundText(round)),
+            State::Reply(round, _) | State::Acknowledged(round, _) => {
+                write!(f, "- {}", RoundText(round))
+            }
+            State::Open(link) | State::Secured(link) => write!(f, "- {}", RoundText(link.round)),
         }
-        State::Reply(r, _) => put_turn(rt, out, at, r),
-        State::Acknowledged(r, _) => put_turn(rt, out, at, r),
-        State::Open(k) => put_turn(rt, out, at, k.round),
-        State::Secured(k) => put_turn(rt, out, at, k.round),
-        State::Killed => text(rt, out, at, b" - - -"),
     }
 }
 
-// An inventoried flag, or SL, as a letter.
-fn letter(b: bool, yes: u8, no: u8) -> u8 {
-    if b { yes } else { no }
+// An inventoried flag.
+fn letter(is_b: bool) -> char {
+    if is_b { 'B' } else { 'A' }
 }
 
-fn put_flags(rt: &impl Print, out: &mut [u8; 65536], at: usize, f: Flags) -> io::Result<usize> {
-    let q = byte(rt, out, at, b' ')?;
-    let q0 = byte(rt, out, q, letter(f.s0, b'B', b'A'))?;
-    let q1 = byte(rt, out, q0, letter(f.s1, b'B', b'A'))?;
-    let q2 = byte(rt, out, q1, letter(f.s2, b'B', b'A'))?;
-    let q3 = byte(rt, out, q2, letter(f.s3, b'B', b'A'))?;
-    byte(rt, out, q3, letter(f.sl, b'S', b'-'))
-}
+// The inventoried flags, and SL.
+#[derive(Clone, Copy)]
+struct FlagsText(Flags);
 
-fn put_live(rt: &impl Print, out: &mut [u8; 65536], at: usize, l: Live) -> io::Result<usize> {
-    let s = l.state;
-    let r = l.register;
-    let f = l.flags;
-    let q = put_state(rt, out, at, s)?;
-    let q2 = put_port(rt, out, q, l.held, r)?;
-    let q3 = put_place(rt, out, q2, s)?;
-    put_flags(rt, out, q3, f)
-}
-
-fn put_session(rt: &impl Print, out: &mut [u8; 65536], at: usize, s: Session) -> io::Result<usize> {
-    let q = text(rt, out, at, b" session ")?;
-    let power = s.power;
-    match power {
-        Power::Off => text(rt, out, q, b"off - - - free 0 - - - -"),
-        Power::On(l) => put_live(rt, out, q, l),
+impl fmt::Display for FlagsText {
+    fn fmt<W: fmt::Write>(&self, f: &mut fmt::Formatter<W>) -> fmt::Result {
+        let Flags { s0, s1, s2, s3, sl } = self.0;
+        for flag in [s0, s1, s2, s3] {
+            f.write_char(letter(flag))?;
+        }
+        f.write_char(if sl { 'S' } else { '-' })
     }
 }
 
-// The number of an answer alone.
-pub fn put_answer(rt: &impl Print, out: &mut [u8; 65536], at: usize, n: u8) -> io::Result<usize> {
-    labelled(rt, out, at, b"answer ", n as u64)
+// A session under power: the state, whether the port is held, the register, the place and the flags.
+#[derive(Clone, Copy)]
+struct LiveText(Live);
+
+impl fmt::Display for LiveText {
+    fn fmt<W: fmt::Write>(&self, f: &mut fmt::Formatter<W>) -> fmt::Result {
+        let Live {
+            held,
+            register,
+            flags,
+            state,
+        } = self.0;
+        let port = if held { "held" } else { "free" };
+        let bits = bits_of(register);
+        write!(f, "{} {port} {bits} ", StateText(state))?;
+        write!(f, "{} {}", PlaceText(state), FlagsText(flags))
+    }
+}
+
+#[derive(Clone, Copy)]
+struct SessionText(Session);
+
+impl fmt::Display for SessionText {
+    fn fmt<W: fmt::Write>(&self, f: &mut fmt::Formatter<W>) -> fmt::Result {
+        match self.0.power {
+            Power::Off => f.write_str("off - - - free 0 - - - -"),
+            Power::On(live) => write!(f, "{}", LiveText(live)),
+        }
+    }
 }
 
 // A call's answer, stores and reply, with the room afterwards.
-fn call(
-    rt: &impl Print,
-    out: &mut [u8; 65536],
-    at: usize,
-    o: Outcome,
-    room: &[u8],
-) -> io::Result<usize> {
-    let a = o.answer;
-    let q = put_answer(rt, out, at, tag::number(a))?;
-    let q2 = labelled(rt, out, q, b" stores ", o.stores as u64)?;
-    let q3 = labelled(rt, out, q2, b" reply ", o.reply as u64)?;
-    let q4 = byte(rt, out, q3, b' ')?;
-    hex(rt, out, q4, room)
+fn call<W: Write>(out: &mut W, o: Outcome, room: &[u8]) -> io::Result<()> {
+    let answer = tag::number(o.answer);
+    let Outcome { stores, reply, .. } = o;
+    write!(out, "answer {answer} stores {stores} reply {reply} ")?;
+    output::hex(out, room)
 }
 
 // The session afterwards, to the line's end.
-fn ending(rt: &impl Print, out: &mut [u8; 65536], at: usize, o: Outcome) -> io::Result<usize> {
-    let s = o.session;
-    let q = put_session(rt, out, at, s)?;
-    byte(rt, out, q, b'\n')
+fn ending<W: Write>(out: &mut W, o: Outcome) -> io::Result<()> {
+    writeln!(out, " session {}", SessionText(o.session))
 }
 
 // A call's whole line.
-pub fn put_outcome(
-    rt: &impl Print,
-    out: &mut [u8; 65536],
-    at: usize,
-    o: Outcome,
-    room: &[u8],
-) -> io::Result<usize> {
-    let q = call(rt, out, at, o, room)?;
-    ending(rt, out, q, o)
+pub fn outcome<W: Write>(out: &mut W, o: Outcome, room: &[u8]) -> io::Result<()> {
+    call(out, o, room)?;
+    ending(out, o)
 }
 
 // The line of the register's reading: its value stands there where the answer is 0.
-pub fn put_reading(
-    rt: &impl Print,
-    out: &mut [u8; 65536],
-    at: usize,
-    o: Outcome,
-) -> io::Result<usize> {
-    let a = o.answer;
-    let q = call(rt, out, at, o, b"")?;
-    if tag::number(a) == 0 {
-        let q2 = labelled(rt, out, q, b" value ", o.value as u64)?;
-        return ending(rt, out, q2, o);
+pub fn reading<W: Write>(out: &mut W, o: Outcome) -> io::Result<()> {
+    call(out, o, b"")?;
+    if tag::number(o.answer) == 0 {
+        let value = o.value;
+        write!(out, " value {value}")?;
     }
-    ending(rt, out, q, o)
+    ending(out, o)
 }

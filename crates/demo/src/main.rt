@@ -6,201 +6,109 @@ ghost use Rattle.std.specs.Prelude.{◌<◌};
 mod playing;
 mod showing;
 
-use playing::{Half, Seen};
-use showing::Sum;
+use playing::{Half, Image, STEPS, Seen, Step, Unlike};
+use showing::{Failed, Sum};
 use std::io;
 use tag::Session;
 
-// How a step of finding the tag went: the session after it, or an answer that the story doesn't have.
-#[derive(Clone, Copy)]
-enum Stepped {
-    To(Session),
-    Failed,
+// Why the play stops: an answer that the story doesn't have, or the output fails.
+#[derive(Debug, Drop)]
+enum Stop {
+    Unlike(Unlike),
+    Io(io::Error),
 }
 
-// How a cut went: what the engine saw, or an answer that the story doesn't have.
-#[derive(Clone, Copy)]
-enum Played {
-    Saw(Seen),
-    Failed,
+impl From<Unlike> for Stop {
+    fn from(unlike: Unlike) -> Stop {
+        Stop::Unlike(unlike)
+    }
 }
 
-// How the gate's write went: the stores made, or such an answer.
-#[derive(Clone, Copy)]
-enum Written {
-    Made(usize),
-    Failed,
+impl From<io::Error> for Stop {
+    fn from(e: io::Error) -> Stop {
+        Stop::Io(e)
+    }
 }
 
-// How the cuts inside one store went: the sum with them, or such an answer.
-#[derive(Clone, Copy)]
-enum Summed {
-    To(Sum),
-    Failed,
-}
-
-// Step i of finding the tag, with its line.
+// A step of finding the tag, with its line; the session after it.
 fn step(
     rt: &impl Print,
-    i: usize,
+    s: Step,
     session: Session,
-    image: &mut [u8; 156],
+    image: &mut Image,
     room: &mut [u8; 8],
-) -> io::Result<Stepped> {
-    let o = playing::step(i, session, image, room);
-    let answer = o.answer;
-    if tag::number(answer) != 0 {
-        showing::lost(rt, playing::sent_at(i), tag::number(answer))?;
-        return Ok(Stepped::Failed);
+) -> Result<Session, Stop> {
+    let o = playing::heard(s, session, image, room);
+    let sent = s.sent;
+    let answer = tag::number(o.answer);
+    if answer != 0 {
+        return Err(Stop::Unlike(Unlike::Finding { sent, answer }));
     }
-    let after = o.session;
-    showing::step(rt, playing::sent_at(i), after, o.reply, room)?;
-    Ok(Stepped::To(after))
+    let words: [u16; 4] = playing::words(room, 0);
+    showing::step(rt, sent, o.session, &words[..(o.reply / 16).min(4)])?;
+    Ok(o.session)
 }
 
-// The steps to ACK, whose reply is in the room then.
-fn acknowledged(rt: &impl Print, image: &mut [u8; 156], room: &mut [u8; 8]) -> io::Result<Stepped> {
-    let mut session = playing::powered(image);
-    for i in 0..5 {
-        let Stepped::To(after) = step(rt, i, session, image, room)? else {
-            return Ok(Stepped::Failed);
-        };
-        session = after;
+// Finds the tag of the worked image; ACK's reply tells its PC and EPC.
+fn found(rt: &impl Print) -> Result<(), Stop> {
+    let mut image = playing::laid();
+    let mut session = playing::powered(&mut image);
+    let mut told = [0; 8];
+    for s in STEPS.iter().take(5) {
+        session = step(rt, *s, session, &mut image, &mut told)?;
     }
-    Ok(Stepped::To(session))
+    let mut room = [0; 8];
+    step(rt, STEPS[5], session, &mut image, &mut room)?;
+    showing::found(rt, &playing::words(&told, 0))?;
+    Ok(())
 }
 
-// Finds the tag of the worked image: whether every step was answered 0.
-fn found(rt: &impl Print) -> io::Result<bool> {
-    let mut image = [0u8; 156];
-    playing::lay(&mut image);
-    let mut told = [0u8; 8];
-    let Stepped::To(session) = acknowledged(rt, &mut image, &mut told)? else {
-        return Ok(false);
-    };
-    let mut room = [0u8; 8];
-    let Stepped::To(_) = step(rt, 5, session, &mut image, &mut room)? else {
-        return Ok(false);
-    };
-    showing::found(rt, &told)?;
-    Ok(true)
+// The cut after k stores: what the engine saw.
+fn between(rt: &impl Print, k: usize) -> Result<Seen, Stop> {
+    let written = playing::write(k)?;
+    let cut = playing::looked(k, &written.image)?;
+    showing::reached(rt, k, written.stores)?;
+    showing::cut(rt, &cut)?;
+    Ok(playing::judged(&cut.words))
 }
 
-// The number that a write of 23 stores is answered with power for k of them.
-fn expected(k: usize) -> u8 {
-    if k < 23 { 11 } else { 0 }
-}
-
-// The gate's write on the worked image, with power for k stores.
-fn gate(rt: &impl Print, k: usize, image: &mut [u8; 156]) -> io::Result<Written> {
-    playing::lay(image);
-    let written = playing::write(image, k);
-    let answer = written.answer;
-    if tag::number(answer) != expected(k) {
-        showing::failure(rt, k, "the gate's BlockWrite", tag::number(answer))?;
-        return Ok(Written::Failed);
-    }
-    Ok(Written::Made(written.stores))
-}
-
-// The reader powers up, and the engine's words end the line, if there is one.
-fn after_cut(rt: &impl Print, k: usize, image: &mut [u8; 156], shown: bool) -> io::Result<Played> {
-    let mut room = [0u8; 14];
-    let read = playing::read(image, &mut room);
-    let answer = read.answer;
-    if tag::number(answer) != 0 {
-        showing::failure(rt, k, "the engine's read", tag::number(answer))?;
-        return Ok(Played::Failed);
-    }
-    let words = playing::entry(&room);
-    let seen = playing::judged(&words);
-    if shown {
-        showing::engine(rt, &words, seen)?;
-    }
-    Ok(Played::Saw(seen))
-}
-
-// The cut after k stores.
-fn between(rt: &impl Print, k: usize) -> io::Result<Played> {
-    let mut image = [0u8; 156];
-    let Written::Made(stores) = gate(rt, k, &mut image)? else {
-        return Ok(Played::Failed);
-    };
-    showing::cut(rt, k, stores)?;
-    showing::bank(rt, playing::pending(&image), playing::bank(&image))?;
-    after_cut(rt, k, &mut image, true)
-}
-
-// The cut after k stores and one byte of the next.
-fn inside(rt: &impl Print, k: usize, half: Half, shown: bool) -> io::Result<Played>
+// The cut after k stores and one byte of the next; it has a line where the engine sees another entry than `known`.
+fn inside(rt: &impl Print, k: usize, half: Half, known: Option<Seen>) -> Result<Seen, Stop>
     requires { k < 23 }
 {
-    let mut image = [0u8; 156];
-    let Written::Made(_) = gate(rt, k, &mut image)? else {
-        return Ok(Played::Failed);
-    };
-    let mut further = [0u8; 156];
-    let Written::Made(_) = gate(rt, k + 1, &mut further)? else {
-        return Ok(Played::Failed);
-    };
-    playing::tear(&mut image, &further, k, half);
-    if shown {
-        showing::torn(rt, k + 1, half, playing::torn(&image, k))?;
-        showing::bank(rt, playing::pending(&image), playing::bank(&image))?;
+    let image = playing::torn(k, half)?;
+    let cut = playing::looked(k, &image)?;
+    let seen = playing::judged(&cut.words);
+    if known != Some(seen) {
+        showing::torn(rt, k + 1, half, playing::torn_word(&image, k))?;
+        showing::cut(rt, &cut)?;
     }
-    after_cut(rt, k, &mut image, shown)
-}
-
-// The cut after the low byte alone has a line where the engine sees another entry than after the high byte alone.
-fn low_alone(rt: &impl Print, k: usize, high: Seen) -> io::Result<Played>
-    requires { k < 23 }
-{
-    let Played::Saw(low) = inside(rt, k, Half::Low, false)? else {
-        return Ok(Played::Failed);
-    };
-    if playing::differ(low, high) {
-        return inside(rt, k, Half::Low, true);
-    }
-    Ok(Played::Saw(low))
-}
-
-// Both cuts inside store k + 1, and the sum with them.
-fn torn(rt: &impl Print, k: usize, sum: Sum) -> io::Result<Summed>
-    requires { k < 23 }
-{
-    let Played::Saw(high) = inside(rt, k, Half::High, true)? else {
-        return Ok(Summed::Failed);
-    };
-    let Played::Saw(low) = low_alone(rt, k, high)? else {
-        return Ok(Summed::Failed);
-    };
-    Ok(Summed::To(showing::counted(showing::counted(sum, high), low)))
+    Ok(seen)
 }
 
 // The sums stand only under cuts that all went as told.
-fn play(rt: &impl Print) -> io::Result<()> {
+fn play(rt: &impl Print) -> Result<(), Stop> {
     showing::finding(rt)?;
-    if !found(rt)? {
-        return Ok(());
-    }
+    found(rt)?;
     showing::heading(rt)?;
-    let mut stores = showing::begin();
-    let mut bytes = showing::begin();
+    let mut stores = Sum::new("between stores");
+    let mut bytes = Sum::new("inside a store");
     for k in 0..24 {
-        let Played::Saw(seen) = between(rt, k)? else {
-            return Ok(());
-        };
-        stores = showing::counted(stores, seen);
+        stores.count(between(rt, k)?);
         if k < 23 {
-            let Summed::To(sum) = torn(rt, k, bytes)? else {
-                return Ok(());
-            };
-            bytes = sum;
+            let high = inside(rt, k, Half::High, None)?;
+            bytes.count(high);
+            bytes.count(inside(rt, k, Half::Low, Some(high))?);
         }
     }
-    showing::totals(rt, stores, bytes)
+    println!(rt; "\n{stores}\n{bytes}")?;
+    Ok(())
 }
 
 fn main(rt: HostRuntime) -> io::Result<()> {
-    play(&rt)
+    match play(&rt) {
+        Ok(()) => Ok(()),
+        Err(Stop::Unlike(unlike)) => println!(rt; "\nFAILED{}", Failed(unlike)),
+        Err(Stop::Io(e)) => Err(e),
+    }
 }

@@ -1,225 +1,225 @@
 // What a line asks for, by its bytes alone.
 use depot::{Command, Place, Round};
-use lines::parts::{number, word};
-use lines::{parts, verbs};
+use lines::parts::{Digits, Parts};
+use lines::verbs;
 
-// A command, the number that it carries, its cover number, which of its parts are its data (0: none), and the part after its last.
+// The bytes of the largest room, and the most bits or stores that a line says.
+const ROOM: u32 = 9604;
+
+const MOST: u32 = 1000000;
+
+// A command, the number that it carries, its cover number, its data if it has any, and what stands behind it for bench.
 #[derive(Clone, Copy)]
-pub struct Asked {
+pub struct Asked<'a> {
     pub command: Command,
     pub number: u16,
     pub cover: u16,
-    pub data: usize,
-    pub after: usize,
+    pub data: Option<Digits<'a>>,
+    pub behind: Option<&'a [u8]>,
 }
 
-// What a line is: none of the list, one that goes through, the room's size, a command, or a reply to one.
+// A reply of so many bits, and the command that it answers.
 #[derive(Clone, Copy)]
-pub enum Said {
-    Bad,
+pub struct Reply<'a> {
+    pub bits: usize,
+    pub bytes: Digits<'a>,
+    pub to: Asked<'a>,
+}
+
+// What a line is: one that goes through, the room's size, a command, or a reply to one.
+#[derive(Clone, Copy)]
+pub enum Said<'a> {
     Through,
-    Room,
-    Make(Asked),
-    Reply(Asked),
-}
-
-// Whether parts of these kinds follow a command's name, with bench's WORD ROOM S behind them or nothing.
-fn formed(c: &[u8], kinds: &[u8]) -> bool {
-    if !parts::begins(c, kinds) {
-        return false;
-    }
-    let n = parts::count(c);
-    if n <= kinds.len() {
-        return n == kinds.len();
-    }
-    parts::fits(parts::from(c, kinds.len()), b"wrm")
-}
-
-// Whether a command has this name, and parts of these kinds (lines::parts names them).
-fn is(c: &[u8], name: &[u8], kinds: &[u8]) -> bool {
-    if !parts::same(parts::part(c, 0), name) {
-        return false;
-    }
-    formed(c, kinds)
+    Room(usize),
+    Make(Asked<'a>),
+    Reply(Reply<'a>),
 }
 
 // A command that carries no number.
-fn bare(command: Command, data: usize, after: usize) -> Said {
-    Said::Make(Asked {
-        command: command,
+fn bare<'a>(command: Command) -> Asked<'a> {
+    Asked {
+        command,
         number: 0,
         cover: 0,
-        data: data,
-        after: after,
-    })
+        data: None,
+        behind: None,
+    }
 }
 
-// A command that carries its first part.
-fn on(command: Command, c: &[u8], data: usize, after: usize) -> Said {
-    Said::Make(Asked {
-        command: command,
-        number: word(c, 1),
-        cover: 0,
-        data: data,
-        after: after,
-    })
+// A command with a number, as the handle.
+fn on<'a>(number: u16, command: Command) -> Asked<'a> {
+    Asked {
+        number,
+        ..bare(command)
+    }
 }
 
 // The same with a cover number.
-fn under(command: Command, c: &[u8], after: usize) -> Said {
-    Said::Make(Asked {
-        command: command,
-        number: word(c, 1),
-        cover: word(c, 2),
-        data: 0,
-        after: after,
+fn under<'a>(number: u16, cover: u16, command: Command) -> Asked<'a> {
+    Asked {
+        cover,
+        ..on(number, command)
+    }
+}
+
+// The next part as any number.
+fn any(parts: &mut Parts<'_>) -> Option<u32> {
+    parts.number(u32::MAX)
+}
+
+fn place(parts: &mut Parts<'_>) -> Option<Place> {
+    Some(Place {
+        bank: any(parts)?,
+        pointer: any(parts)?,
     })
 }
 
-// The place that two parts say.
-fn place(c: &[u8], bank: usize, pointer: usize) -> Place {
-    Place {
-        bank: number(c, bank),
-        pointer: number(c, pointer),
-    }
-}
-
 // The fields of a Query.
-fn round(c: &[u8]) -> Round {
-    Round {
-        dr: number(c, 1),
-        m: number(c, 2),
-        trext: number(c, 3),
-        sel: number(c, 4),
-        session: number(c, 5),
-        target: number(c, 6),
-        q: number(c, 7),
+fn round(parts: &mut Parts<'_>) -> Option<Round> {
+    Some(Round {
+        dr: any(parts)?,
+        m: any(parts)?,
+        trext: any(parts)?,
+        sel: any(parts)?,
+        session: any(parts)?,
+        target: any(parts)?,
+        q: any(parts)?,
+    })
+}
+
+fn select<'a>(parts: &mut Parts<'a>) -> Option<Asked<'a>> {
+    let target = any(parts)?;
+    let action = any(parts)?;
+    let command = Command::Select(target, action, place(parts)?, any(parts)?);
+    Some(Asked {
+        data: Some(parts.hex()?),
+        ..bare(command)
+    })
+}
+
+fn block_write<'a>(parts: &mut Parts<'a>) -> Option<Asked<'a>> {
+    let number = parts.word()?;
+    let command = Command::BlockWrite(place(parts)?);
+    Some(Asked {
+        data: Some(parts.hex()?),
+        ..on(number, command)
+    })
+}
+
+// Its two forms: permalock bits are read, or locked.
+fn block_permalock<'a>(parts: &mut Parts<'a>) -> Option<Asked<'a>> {
+    let number = parts.word()?;
+    match parts.next()? {
+        b"read" => {
+            let command = Command::ReadPermalock(place(parts)?, any(parts)?);
+            Some(on(number, command))
+        }
+        b"lock" => {
+            let command = Command::Permalock(place(parts)?);
+            Some(Asked {
+                data: Some(parts.hex()?),
+                ..on(number, command)
+            })
+        }
+        _ => None,
     }
 }
 
-// The commands with a handle and words.
-fn with_data(c: &[u8]) -> Said {
-    if is(c, b"BlockWrite", b"wnnx") {
-        return on(Command::BlockWrite(place(c, 2, 3)), c, 4, 5);
-    }
-    if is(c, b"BlockPermalock", b"wLnnx") {
-        return on(Command::Permalock(place(c, 3, 4)), c, 5, 6);
-    }
-    Said::Bad
+fn write<'a>(parts: &mut Parts<'a>) -> Option<Asked<'a>> {
+    let number = parts.word()?;
+    let cover = parts.word()?;
+    let command = Command::Write(place(parts)?, parts.word()?);
+    Some(under(number, cover, command))
 }
 
-// The commands with a cover number.
-fn covered(c: &[u8]) -> Said {
-    if is(c, b"Write", b"wwnnw") {
-        return under(Command::Write(place(c, 3, 4), word(c, 5)), c, 6);
-    }
-    if is(c, b"Kill", b"www") {
-        return under(Command::Kill(word(c, 3)), c, 4);
-    }
-    if is(c, b"Access", b"www") {
-        return under(Command::Access(word(c, 3)), c, 4);
-    }
-    with_data(c)
+// The commands with a handle.
+fn linked<'a>(name: &[u8], parts: &mut Parts<'a>) -> Option<Asked<'a>> {
+    let asked = match name {
+        b"Read" => on(parts.word()?, Command::Read(place(parts)?, any(parts)?)),
+        b"Write" => write(parts)?,
+        b"Kill" => under(parts.word()?, parts.word()?, Command::Kill(parts.word()?)),
+        b"Access" => under(parts.word()?, parts.word()?, Command::Access(parts.word()?)),
+        b"Lock" => on(parts.word()?, Command::Lock(parts.word()?, parts.word()?)),
+        b"BlockWrite" => block_write(parts)?,
+        b"BlockErase" => on(
+            parts.word()?,
+            Command::BlockErase(place(parts)?, any(parts)?),
+        ),
+        b"BlockPermalock" => block_permalock(parts)?,
+        _ => return None,
+    };
+    Some(asked)
 }
 
-// The commands with a handle and numbers.
-fn plain(c: &[u8]) -> Said {
-    if is(c, b"Read", b"wnnn") {
-        return on(Command::Read(place(c, 2, 3), number(c, 4)), c, 0, 5);
-    }
-    if is(c, b"BlockErase", b"wnnn") {
-        return on(Command::BlockErase(place(c, 2, 3), number(c, 4)), c, 0, 5);
-    }
-    if is(c, b"BlockPermalock", b"wRnnn") {
-        let p = place(c, 3, 4);
-        return on(Command::ReadPermalock(p, number(c, 5)), c, 0, 6);
-    }
-    if is(c, b"Lock", b"www") {
-        return on(Command::Lock(word(c, 2), word(c, 3)), c, 0, 4);
-    }
-    covered(c)
+// Every command: those that lead from a round to a handle or back, and then the others.
+fn named<'a>(name: &[u8], parts: &mut Parts<'a>) -> Option<Asked<'a>> {
+    let asked = match name {
+        b"QueryRep" => bare(Command::QueryRep(any(parts)?)),
+        b"QueryAdjust" => bare(Command::QueryAdjust(any(parts)?, any(parts)?)),
+        b"Query" => bare(Command::Query(round(parts)?)),
+        b"Select" => select(parts)?,
+        b"ACK" => on(parts.word()?, Command::Ack),
+        b"Req_RN" => on(parts.word()?, Command::ReqRn),
+        b"NAK" => bare(Command::Nak),
+        _ => linked(name, parts)?,
+    };
+    Some(asked)
 }
 
-// The commands that lead from a round to a handle, or back.
-fn linking(c: &[u8]) -> Said {
-    if is(c, b"ACK", b"w") {
-        return on(Command::Ack, c, 0, 2);
-    }
-    if is(c, b"Req_RN", b"w") {
-        return on(Command::ReqRn, c, 0, 2);
-    }
-    if is(c, b"NAK", b"") {
-        return bare(Command::Nak, 0, 1);
-    }
-    plain(c)
+// What may stand behind a command: bench's word, room and stores.
+fn played(rest: &[u8]) -> Option<()> {
+    let mut parts = Parts::of(rest);
+    parts.word()?;
+    parts.size(ROOM)?;
+    parts.size(MOST)?;
+    parts.end()
 }
 
-// Every command: those of inventory, and then the others.
-fn command(c: &[u8]) -> Said {
-    if is(c, b"QueryRep", b"n") {
-        return bare(Command::QueryRep(number(c, 1)), 0, 2);
+// A command by its name and its parts.
+fn command(line: &[u8]) -> Option<Asked<'_>> {
+    let mut parts = Parts::of(line);
+    let asked = named(parts.next()?, &mut parts)?;
+    let behind = parts.rest();
+    if let Some(rest) = behind {
+        played(rest)?;
     }
-    if is(c, b"QueryAdjust", b"nn") {
-        return bare(Command::QueryAdjust(number(c, 1), number(c, 2)), 0, 3);
-    }
-    if is(c, b"Query", b"nnnnnnn") {
-        return bare(Command::Query(round(c)), 0, 8);
-    }
-    if is(c, b"Select", b"nnnnnx") {
-        let p = place(c, 3, 4);
-        let s = Command::Select(number(c, 1), number(c, 2), p, number(c, 5));
-        return bare(s, 6, 7);
-    }
-    linking(c)
-}
-
-// The command of a reply's line.
-pub fn replied(line: &[u8]) -> &[u8] {
-    parts::from(line, 3)
+    Some(Asked { behind, ..asked })
 }
 
 // A reply, and the command that it answers.
-fn reply(line: &[u8]) -> Said {
-    if !parts::begins(line, b"mx") {
-        return Said::Bad;
-    }
-    let s = command(replied(line));
-    match s {
-        Said::Make(a) => Said::Reply(a),
-        _ => Said::Bad,
-    }
+fn heard<'a>(parts: &mut Parts<'a>) -> Option<Reply<'a>> {
+    Some(Reply {
+        bits: parts.size(MOST)?,
+        bytes: parts.hex()?,
+        to: command(parts.rest()?)?,
+    })
 }
 
-// A line that sets the room.
-fn room(line: &[u8]) -> Said {
-    if parts::fits(line, b"r") {
-        return Said::Room;
-    }
-    Said::Bad
+// The size that a line sets the room to.
+fn room(parts: &mut Parts<'_>) -> Option<usize> {
+    let bytes = parts.size(ROOM)?;
+    parts.end()?;
+    Some(bytes)
 }
 
 // A line that has bytes and is no comment.
-fn spoken(line: &[u8]) -> Said {
-    let first = parts::part(line, 0);
-    if verbs::is_verb(first) {
-        return Said::Through;
+fn spoken(line: &[u8]) -> Option<Said<'_>> {
+    let mut parts = Parts::of(line);
+    let first = parts.next()?;
+    if verbs::verb_of(first).is_some() {
+        return Some(Said::Through);
     }
-    if parts::same(first, b"reply") {
-        return reply(line);
+    match first {
+        b"reply" => Some(Said::Reply(heard(&mut parts)?)),
+        b"room" => Some(Said::Room(room(&mut parts)?)),
+        _ => Some(Said::Make(command(line)?)),
     }
-    if parts::same(first, b"room") {
-        return room(line);
-    }
-    command(line)
 }
 
-// What a line is, of at most 20,000 bytes.
-pub fn meant(line: &[u8]) -> Said {
-    if line.len() == 0 {
-        return Said::Through;
-    }
-    if line[0] == b'#' {
-        return Said::Through;
+// What a line is, if it is one of the list.
+pub fn meant(line: &[u8]) -> Option<Said<'_>> {
+    if line.is_empty() || line[0] == b'#' {
+        return Some(Said::Through);
     }
     spoken(line)
 }

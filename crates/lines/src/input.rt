@@ -1,126 +1,116 @@
-// The lines of the standard input, read by way of a chunk of it.
+// The lines of the standard input, read by way of a chunk of it; nothing is allocated.
 ghost use Rattle.std.specs.Prelude.{◌≤◌};
 
+use crate::Fault;
 use std::io;
 use std::io::Read;
 
-// What of the chunk is not taken yet, the line's number, counted from 1, how many bytes it has (20,001: it is too long), whether it is there, and whether input is left.
-#[derive(Clone, Copy)]
-pub struct Source {
-    pub at: usize,
-    pub end: usize,
-    pub k: u64,
-    pub n: usize,
-    pub whole: bool,
-    pub more: bool,
+// A line as far as it is read. One of more than 20,000 bytes is too long, and only counted.
+#[derive(Drop)]
+struct Kept {
+    bytes: [u8; 20000],
+    len: usize,
 }
 
-// Nothing is read yet.
-pub fn begin() -> Source {
-    Source {
-        at: 0,
-        end: 0,
-        k: 0,
-        n: 0,
-        whole: false,
-        more: true,
-    }
-}
-
-// One byte more of a line that holds n; what is too long grows no further.
-fn kept(line: &mut [u8; 20000], n: usize, c: u8) -> usize {
-    if n < 20000 {
-        line[n] = c;
-        return n + 1;
-    }
-    20001
-}
-
-fn within(end: usize) -> usize
-    ensures { result ≤ 65536 }
-{
-    if end < 65536 { end } else { 65536 }
-}
-
-// Takes the chunk's bytes, to the line's end or the chunk's.
-fn taken(s: Source, chunk: &[u8; 65536], line: &mut [u8; 20000]) -> Source {
-    let end = within(s.end);
-    let mut n = s.n;
-    for i in s.at..end {
-        let c = chunk[i];
-        if c == b'\n' {
-            return Source {
-                at: i + 1,
-                end: end,
-                k: s.k,
-                n: n,
-                whole: true,
-                more: true,
-            };
+impl Kept {
+    fn add(&mut self, more: &[u8]) {
+        let end = self.len.saturating_add(more.len());
+        if end <= 20000 {
+            self.bytes[self.len..end].copy_from_slice(more);
         }
-        n = kept(line, n, c);
+        self.len = end;
     }
-    Source {
-        at: end,
-        end: end,
-        k: s.k,
-        n: n,
-        whole: false,
-        more: true,
-    }
-}
 
-// Reads once; nothing more is the end, and makes a last line of what lacks its newline.
-fn filled<R: Read>(
-    reader: &mut R,
-    k: u64,
-    n: usize,
-    chunk: &mut [u8; 65536],
-) -> io::Result<Source> {
-    let end = reader.read(chunk)?;
-    Ok(Source {
-        at: 0,
-        end: end,
-        k: k,
-        n: n,
-        whole: end == 0 && n > 0,
-        more: end > 0,
-    })
-}
-
-fn one_more(k: u64) -> u64 {
-    if k < u64::MAX { k + 1 } else { k }
-}
-
-// The same chunk, before the next line's first byte.
-fn before(s: Source) -> Source {
-    Source {
-        at: s.at,
-        end: s.end,
-        k: one_more(s.k),
-        n: 0,
-        whole: false,
-        more: s.more,
-    }
-}
-
-// Reads the next line; where none is left, none is there.
-pub fn next<R: Read>(
-    reader: &mut R,
-    s: Source,
-    chunk: &mut [u8; 65536],
-    line: &mut [u8; 20000],
-) -> io::Result<Source> {
-    let mut q = before(s);
-    for _ in 0..u64::MAX {
-        if !q.more {
-            return Ok(q);
+    fn whole(&self) -> Result<&[u8], Fault> {
+        if self.len > 20000 {
+            return Err(Fault::BadLine);
         }
-        q = taken(q, chunk, line);
-        if q.whole {
-            return Ok(q);
-        }
-        q = filled(reader, q.k, q.n, chunk)?;
+        Ok(&self.bytes[..self.len])
     }
-    Ok(q)
+}
+
+// The reader, what of its chunk is not taken yet, whether its end is reached, and the line.
+#[derive(Drop)]
+pub struct Source<R: Read> {
+    reader: R,
+    chunk: [u8; 65536],
+    at: usize,
+    end: usize,
+    ended: bool,
+    line: Kept,
+    ghost rest: { at ≤ end },
+    ghost within: { end ≤ 65536 },
+}
+
+impl<R: Read> Source<R> {
+    // Nothing is read yet.
+    pub fn new(reader: R) -> Source<R> {
+        Source {
+            reader,
+            chunk: [0; 65536],
+            at: 0,
+            end: 0,
+            ended: false,
+            line: Kept {
+                bytes: [0; 20000],
+                len: 0,
+            },
+        }
+    }
+
+    // Takes the chunk's bytes to the line's end, or the chunk's: whether the line ends there.
+    fn taken(&mut self) -> bool {
+        let Source {
+            chunk,
+            at,
+            end,
+            line,
+            ..
+        } = self;
+        let rest = &chunk[*at..*end];
+        match rest.iter().position(|c| *c == b'\n') {
+            Some(n) => {
+                line.add(&rest[..n]);
+                *at += n + 1;
+                true
+            }
+            None => {
+                line.add(rest);
+                *at = *end;
+                false
+            }
+        }
+    }
+
+    // Reads once; nothing more is the end.
+    fn fill(&mut self) -> io::Result<()> {
+        let n = self.reader.read(&mut self.chunk)?;
+        self.at = 0;
+        self.end = n;
+        self.ended = n == 0;
+        Ok(())
+    }
+
+    // Reads to the line's end: whether there is a line. The last may lack its newline.
+    fn complete(&mut self) -> io::Result<bool> {
+        for _ in 0..u64::MAX {
+            if self.taken() {
+                return Ok(true);
+            }
+            if self.ended {
+                return Ok(self.line.len > 0);
+            }
+            self.fill()?;
+        }
+        Ok(false)
+    }
+
+    // The next line, if there is one.
+    pub fn next_line(&mut self) -> io::Result<Option<Result<&[u8], Fault>>> {
+        self.line.len = 0;
+        if !self.complete()? {
+            return Ok(None);
+        }
+        Ok(Some(self.line.whole()))
+    }
 }

@@ -1,98 +1,61 @@
-// What is written, by way of a buffer: each function takes the place in it and gives the next.
-ghost use Rattle.std.specs.Prelude.{◌<◌};
+// What is written, by way of a buffer of fixed size: nothing is allocated.
+ghost use Rattle.std.specs.Prelude.{◌≤◌, ◌<◌};
 
-use crate::parts;
 use std::io;
+use std::io::Write;
 
-// One byte; a full buffer is written out first.
-pub fn byte(rt: &impl Print, out: &mut [u8; 65536], at: usize, c: u8) -> io::Result<usize> {
-    if at < 65536 {
-        out[at] = c;
-        return Ok(at + 1);
+// The bytes that are not written out yet.
+#[derive(Drop)]
+pub struct Out<'a, P: Print> {
+    rt: &'a P,
+    bytes: [u8; 65536],
+    len: usize,
+    ghost within: { len ≤ 65536 },
+}
+
+impl<'a, P: Print> Out<'a, P> {
+    pub fn new(rt: &'a P) -> Out<'a, P> {
+        Out {
+            rt,
+            bytes: [0; 65536],
+            len: 0,
+        }
     }
-    rt.write_all(out)?;
-    out[0] = c;
-    Ok(1)
 }
 
-// Writes out what the buffer holds.
-pub fn flush(rt: &impl Print, out: &[u8; 65536], at: usize) -> io::Result<()> {
-    rt.write_all(parts::first(out, at))
-}
-
-pub fn text(rt: &impl Print, out: &mut [u8; 65536], at: usize, words: &[u8]) -> io::Result<usize> {
-    let mut q = at;
-    for c in words {
-        q = byte(rt, out, q, *c)?;
+impl<P: Print> Write for Out<'_, P> {
+    // A full buffer is written out first.
+    fn write(&mut self, words: &[u8]) -> io::Result<usize> {
+        if self.len == 65536 {
+            self.flush()?;
+        }
+        let n = words.len().min(65536 - self.len);
+        let end = self.len + n;
+        self.bytes[self.len..end].copy_from_slice(&words[..n]);
+        self.len = end;
+        Ok(n)
     }
-    Ok(q)
-}
 
-// Words to a line's end.
-pub fn ending(
-    rt: &impl Print,
-    out: &mut [u8; 65536],
-    at: usize,
-    words: &[u8],
-) -> io::Result<usize> {
-    let q = text(rt, out, at, words)?;
-    byte(rt, out, q, b'\n')
-}
-
-// A number in decimal: the digits above the last, and the last.
-fn decimal(rt: &impl Print, out: &mut [u8; 65536], at: usize, n: u64) -> io::Result<usize> {
-    let q = if n < 10 {
-        at
-    } else {
-        decimal(rt, out, at, n / 10)?
-    };
-    byte(rt, out, q, digit((n % 10) as u8))
-}
-
-// A label and a number.
-pub fn labelled(
-    rt: &impl Print,
-    out: &mut [u8; 65536],
-    at: usize,
-    label: &[u8],
-    n: u64,
-) -> io::Result<usize> {
-    let q = text(rt, out, at, label)?;
-    decimal(rt, out, q, n)
-}
-
-// The line that answers a bad line, the kth.
-pub fn bad_line(rt: &impl Print, out: &mut [u8; 65536], at: usize, k: u64) -> io::Result<usize> {
-    let q = labelled(rt, out, at, b"bad line ", k)?;
-    byte(rt, out, q, b'\n')
+    fn flush(&mut self) -> io::Result<()> {
+        self.rt.write_all(&self.bytes[..self.len])?;
+        self.len = 0;
+        Ok(())
+    }
 }
 
 fn digit(d: u8) -> u8
     requires { d < 16 }
 {
-    if d < 10 { 48 + d } else { 87 + d }
-}
-
-// A byte as two hex digits.
-pub fn two_digits(rt: &impl Print, out: &mut [u8; 65536], at: usize, c: u8) -> io::Result<usize> {
-    let q = byte(rt, out, at, digit(c / 16))?;
-    byte(rt, out, q, digit(c % 16))
+    if d < 10 { b'0' + d } else { b'a' - 10 + d }
 }
 
 // Bytes as hex, or - for none.
-pub fn hex(rt: &impl Print, out: &mut [u8; 65536], at: usize, bytes: &[u8]) -> io::Result<usize> {
-    if bytes.len() == 0 {
-        return text(rt, out, at, b"-");
+pub fn hex<W: Write>(out: &mut W, bytes: &[u8]) -> io::Result<()> {
+    if bytes.is_empty() {
+        return out.write_all(b"-");
     }
-    let mut q = at;
     for c in bytes {
-        q = two_digits(rt, out, q, *c)?;
+        out.write_all(&[digit(c / 16), digit(c % 16)])?;
     }
-    Ok(q)
-}
-
-// A word as four hex digits.
-pub fn word(rt: &impl Print, out: &mut [u8; 65536], at: usize, w: u16) -> io::Result<usize> {
-    let q = two_digits(rt, out, at, (w / 256) as u8)?;
-    two_digits(rt, out, q, (w % 256) as u8)
+    Ok(())
 }

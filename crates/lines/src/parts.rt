@@ -1,237 +1,146 @@
-// A line's parts, counted from 0, the line's first word: words, numbers and hex.
-ghost use Rattle.std.specs.Prelude.{◌≤◌, ◌<◌, length};
+// A line's parts, taken one by one: words, numbers and hex.
+ghost use Rattle.std.specs.Prelude.{◌≤◌, ◌<◌, ◌*◌, ◌^◌, length, IfSome};
 
-// Where the part that starts at `from` ends.
-fn end_of(line: &[u8], from: usize) -> usize
-    requires { from ≤ length line.now }
-    ensures { (from ≤ result) × (result ≤ length line.now) }
-{
-    for i in from..line.len() {
-        if line[i] == b' ' {
-            return i;
-        }
-    }
-    line.len()
+// What of a line is not taken yet; nothing behind the last part.
+#[derive(Clone, Copy)]
+pub struct Parts<'a> {
+    rest: Option<&'a [u8]>,
 }
 
-// Where part k starts, or the line's end.
-fn start_of(line: &[u8], k: usize) -> usize
-    ensures { result ≤ length line.now }
-{
-    let mut at = 0;
-    for _ in 0..k {
-        at = end_of(line, at);
-        if at == line.len() {
-            return at;
-        }
-        at += 1;
-    }
-    at
+// A part that is hex: an even number of digits, none where it is -.
+#[derive(Clone, Copy)]
+pub struct Digits<'a> {
+    digits: &'a [u8],
 }
 
-// Part k of a line, without bytes where there is none.
-pub fn part(line: &[u8], k: usize) -> &[u8] {
-    let a = start_of(line, k);
-    let e = end_of(line, a);
-    &line[a..e]
-}
-
-// A line from its part k on, without bytes where there is none.
-pub fn from(line: &[u8], k: usize) -> &[u8] {
-    let a = start_of(line, k);
-    &line[a..]
-}
-
-// The first n bytes, or all where there are fewer.
-pub fn first(bytes: &[u8], n: usize) -> &[u8] {
-    if n < bytes.len() {
-        return &bytes[0..n];
-    }
-    bytes
-}
-
-// How many parts follow a line's first word: as many as it has spaces.
-pub fn count(line: &[u8]) -> usize {
-    let mut n = 0;
-    for c in line {
-        if *c == b' ' {
-            n += 1;
-        }
-    }
-    n
-}
-
-pub fn same(p: &[u8], name: &[u8]) -> bool {
-    if p.len() != name.len() {
-        return false;
-    }
-    for i in 0..p.len() {
-        if p[i] != name[i] {
-            return false;
-        }
-    }
-    true
-}
-
-// Whether a byte is a decimal digit, or one of hex.
-fn is_digit(c: u8, hex: bool) -> bool {
-    match c {
-        48..=57 => true,
-        97..=102 => hex,
-        _ => false,
-    }
-}
-
-fn all_digits(p: &[u8], hex: bool) -> bool {
-    for c in p {
-        if !is_digit(*c, hex) {
-            return false;
-        }
-    }
-    true
-}
-
-// A digit's value.
-fn value(c: u8) -> u8
-    ensures { result < 16 }
+// A digit's value, hex too.
+fn digit(c: u8) -> Option<u8>
+    ensures { IfSome result (λ d. d < 16) }
 {
     match c {
-        48..=57 => c - 48,
-        97..=102 => c - 87,
-        _ => 0,
+        b'0'..=b'9' => Some(c - b'0'),
+        b'a'..=b'f' => Some(c - b'a' + 10),
+        _ => None,
     }
 }
 
-// A number and one digit more; past 4,294,967,295 it grows no further.
-fn added(n: u64, c: u8) -> u64 {
-    if n > 4294967295 {
-        return n;
+// A number and one decimal digit more, within 32 bits.
+fn added(n: u32, c: u8) -> Option<u32> {
+    let d = digit(c)?;
+    if d > 9 {
+        return None;
     }
-    n * 10 + value(c) as u64
+    n.checked_mul(10)?.checked_add(u32::from(d))
 }
 
-// The number that digits say, if it is at most 4,294,967,295.
-fn amount(p: &[u8]) -> u64 {
+// The decimal number that a part says without leading zeros, if it is at most `most`.
+pub fn number(p: &[u8], most: u32) -> Option<u32>
+    ensures { IfSome result (λ n. n ≤ most) }
+{
+    if p.is_empty() || (p.len() > 1 && p[0] == b'0') {
+        return None;
+    }
     let mut n = 0;
     for c in p {
-        n = added(n, *c);
+        n = added(n, *c)?;
     }
-    n
+    if n <= most { Some(n) } else { None }
 }
 
-// Whether a part is a decimal number without leading zeros, of at most `most`, which is at most 4,294,967,295.
-fn is_number(p: &[u8], most: u64) -> bool {
-    if p.len() == 0 {
-        return false;
-    }
-    if p[0] == b'0' {
-        return p.len() == 1;
-    }
-    if !all_digits(p, false) {
-        return false;
-    }
-    amount(p) <= most
+// The byte of two hex digits.
+fn pair(high: u8, low: u8) -> Option<u8> {
+    Some(digit(high)? * 16 + digit(low)?)
 }
 
-fn is_word(p: &[u8]) -> bool {
-    if p.len() != 4 {
-        return false;
-    }
-    all_digits(p, true)
+// The word of four hex digits.
+pub fn word(p: &[u8]) -> Option<u16> {
+    let [a, b, c, d] = p else {
+        return None;
+    };
+    Some(u16::from_be_bytes([pair(*a, *b)?, pair(*c, *d)?]))
 }
 
-// Whether a part is an even number of hex digits, or - for no bytes.
-fn is_hex(p: &[u8]) -> bool {
-    if p.len() == 0 {
-        return false;
+// A part as hex.
+pub fn hex(p: &[u8]) -> Option<Digits<'_>> {
+    if p == b"-".as_slice() {
+        return Some(Digits { digits: &[] });
     }
-    if same(p, b"-") {
-        return true;
+    if p.is_empty() || p.len() % 2 == 1 || !p.iter().all(|c| digit(*c).is_some()) {
+        return None;
     }
-    if p.len() % 2 == 1 {
-        return false;
-    }
-    all_digits(p, true)
+    Some(Digits { digits: p })
 }
 
-// Whether a part is of a kind: w a word, x hex, r a room's number of bytes, m a number of at most a million, n any number, R and L the words read and lock.
-fn is_of(p: &[u8], kind: u8) -> bool {
-    match kind {
-        b'w' => is_word(p),
-        b'x' => is_hex(p),
-        b'r' => is_number(p, 9604),
-        b'm' => is_number(p, 1000000),
-        b'n' => is_number(p, 4294967295),
-        b'R' => same(p, b"read"),
-        b'L' => same(p, b"lock"),
-        _ => false,
+impl Digits<'_> {
+    // How many bytes there are.
+    pub fn len(&self) -> usize {
+        self.digits.len() / 2
+    }
+
+    // The bytes, as far as there is room, and how many these are.
+    pub fn read(&self, room: &mut [u8]) -> usize
+        ensures { result ≤ length room.new }
+    {
+        let n = self.len().min(room.len());
+        for (slot, two) in room.iter_mut().zip(self.digits.chunks_exact(2)) {
+            *slot = pair(two[0], two[1]).unwrap_or(0);
+        }
+        n
     }
 }
 
-// Whether parts of these kinds follow a line's first word, whatever comes then.
-pub fn begins(line: &[u8], kinds: &[u8]) -> bool {
-    for k in 0..kinds.len() {
-        if !is_of(part(line, k + 1), kinds[k]) {
-            return false;
+impl<'a> Parts<'a> {
+    pub fn of(line: &'a [u8]) -> Parts<'a> {
+        Parts { rest: Some(line) }
+    }
+
+    // The next part, to a space or the line's end.
+    pub fn next(&mut self) -> Option<&'a [u8]> {
+        let rest = self.rest?;
+        match rest.iter().position(|c| *c == b' ') {
+            Some(n) => {
+                self.rest = Some(&rest[n + 1..]);
+                Some(&rest[..n])
+            }
+            None => {
+                self.rest = None;
+                Some(rest)
+            }
         }
     }
-    true
-}
 
-// Whether parts of these kinds follow a line's first word, and no more.
-pub fn fits(line: &[u8], kinds: &[u8]) -> bool {
-    if count(line) != kinds.len() {
-        return false;
+    // The next part as a number of at most `most`.
+    pub fn number(&mut self, most: u32) -> Option<u32>
+        ensures { IfSome result (λ n. n ≤ most) }
+    {
+        number(self.next()?, most)
     }
-    begins(line, kinds)
-}
 
-// Part k as a number; what is none is any number.
-pub fn number(line: &[u8], k: usize) -> u32 {
-    let n = amount(part(line, k));
-    if n > 4294967295 {
-        return 4294967295;
+    // The same, as a number of bytes, bits, words or stores.
+    pub fn size(&mut self, most: u32) -> Option<usize>
+        ensures { IfSome result (λ n. n ≤ most) }
+    {
+        Some(self.number(most)? as usize)
     }
-    n as u32
-}
 
-// The same, as a number of bytes, bits or words.
-pub fn size(line: &[u8], k: usize) -> usize {
-    number(line, k) as usize
-}
-
-// The same, as a room's number of bytes.
-pub fn room(line: &[u8], k: usize) -> usize
-    ensures { result ≤ 9604 }
-{
-    let n = size(line, k);
-    if n < 9604 { n } else { 9604 }
-}
-
-fn pair(a: u8, b: u8) -> u8 {
-    value(a) * 16 + value(b)
-}
-
-// Part k as a word; what is none is any word.
-pub fn word(line: &[u8], k: usize) -> u16 {
-    let p = part(line, k);
-    if p.len() < 4 {
-        return 0;
+    pub fn word(&mut self) -> Option<u16> {
+        word(self.next()?)
     }
-    let high = pair(p[0], p[1]) as u16;
-    let low = pair(p[2], p[3]) as u16;
-    high * 256 + low
-}
 
-// The bytes of a hex part, and how many there are.
-pub fn bytes(p: &[u8], into: &mut [u8]) -> usize
-    ensures { result ≤ length into.new }
-{
-    for i in 0..into.len() {
-        if p.len() / 2 <= i {
-            return i;
+    pub fn hex(&mut self) -> Option<Digits<'a>> {
+        hex(self.next()?)
+    }
+
+    // What is not taken yet, if any part is left.
+    pub fn rest(&self) -> Option<&'a [u8]> {
+        self.rest
+    }
+
+    // That no part is left.
+    pub fn end(&self) -> Option<()> {
+        if self.rest.is_some() {
+            return None;
         }
-        into[i] = pair(p[2 * i], p[2 * i + 1]);
+        Some(())
     }
-    into.len()
 }

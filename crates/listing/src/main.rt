@@ -7,41 +7,35 @@ use image::{Fit, Layout, Section};
 use std::io;
 use std::io::Read;
 
-// A name and a number.
-fn line(rt: &impl Print, name: &str, n: u64) -> io::Result<()> {
-    println!(rt; "{name} {n}")
-}
-
-// A section's name, offset and count.
-fn section(rt: &impl Print, name: &str, s: Section) -> io::Result<()> {
-    let at = s.at;
-    let words = s.words;
-    println!(rt; "{name} {at} {words}")
-}
-
+// Each section's name, offset and count.
 fn sections(rt: &impl Print, y: Layout) -> io::Result<()> {
     println!(rt; "section offset words")?;
-    section(rt, "STATUS", y.status)?;
-    section(rt, "RESERVED", y.reserved)?;
-    section(rt, "EPC", y.epc)?;
-    section(rt, "TID", y.tid)?;
-    section(rt, "USER", y.user)?;
-    section(rt, "PERMA", y.perma)?;
-    section(rt, "WORK", y.work)
+    let named = [
+        ("STATUS", y.status),
+        ("RESERVED", y.reserved),
+        ("EPC", y.epc),
+        ("TID", y.tid),
+        ("USER", y.user),
+        ("PERMA", y.perma),
+        ("WORK", y.work),
+    ];
+    for (name, Section { at, words }) in named {
+        println!(rt; "{name} {at} {words}")?;
+    }
+    Ok(())
 }
 
 fn list(rt: &impl Print, image: &[u8]) -> io::Result<()> {
     let fit = image::check(image);
     let Fit::Good(y) = fit else {
-        return line(rt, "refused", image::number(fit) as u64);
+        return println!(rt; "refused {}", image::number(fit));
     };
     sections(rt, y)?;
-    line(rt, "blocks", image::blocks(y) as u64)?;
-    let c = bits::word(image, y.work.at as usize);
-    line(rt, "pending", c as u64)
+    println!(rt; "blocks {}", image::blocks(y))?;
+    println!(rt; "pending {}", bits::word(image, y.work.at as usize))
 }
 
-// Reads until the buffer is full or the input ends, and gives how many bytes it put there.
+// Reads until the buffer is full or the input ends, and gives how many bytes it put there: the library's `read_to_end` allocates.
 fn filled<R: Read>(reader: &mut R, buffer: &mut [u8]) -> io::Result<usize>
     ensures { IfOk result (λ n. n ≤ length buffer.new) }
 {
@@ -63,7 +57,7 @@ fn main(rt: HostRuntime) -> io::Result<()> {
     let n = filled(&mut reader, &mut buffer)?;
     let mut more = [0u8; 1];
     if reader.read(&mut more)? > 0 {
-        return line(&rt, "refused", 2);
+        return println!(rt; "refused 2");
     }
     list(&rt, &buffer[..n])
 }
