@@ -15,7 +15,7 @@ use Rattle.image.specs.declared.Layout.{Layout}
 use Rattle.image.specs.Layout.{blocks_in, pairs_in}
 use Rattle.image.specs.Content.{lock_word, length_of, pc_word, permalock}
 use Rattle.frames.specs.Frames.{span}
-use Rattle.rights.specs.declared.Code.TheVariants as code
+use Rattle.std.specs.Prelude.{Ok, Err}
 use Rattle.rights.specs.declared.Fault.TheVariants as fault
 use Rattle.rights.specs.Rights.{bank_of, pwd_bit, perma_bit, may_read, may_write, beyond, bad_pc, read_end, span_words, read_code, write_code, locked_to, lock_code, pair_breaks, some_permalock, user_open_for_good, not_perma, perma_read_code, perma_code}
 use Rattle.demands.proofs.Rights.{reads-if, reads-not, writes-if, writes-not}
@@ -51,22 +51,22 @@ module _ (y : Layout) (m : List ℕ) (b p : ℕ) where
   words-shown n k (inr d) = ap (λ (t : Bool). cond t (read_end y m b p - p) n) (eq-eqb n 0 d.0) ∙ omega (arith, ends_so (p + k) d.1)
 
 module _ (y : Layout) (m : List ℕ) (q : Bool) (b p n : ℕ) where
-  pub read_past : Past (bank_of y b).words p n → read_code y m q (span b p n) ≡ code.Error fault.PastEnd
+  pub read_past : Past (bank_of y b).words p n → read_code y m q (span b p n) ≡ Err fault.PastEnd
   unfolding read_code
   read_past f = rw (past-beyond (bank_of y b) b p n f)
 
   pub read_right : (k j : ℕ) → Within (bank_of y b).words p n → Shows y m b p n k → j < k → (MayRead y m q b (p + j) → ⊥)
-      → read_code y m q (span b p n) ≡ code.Error fault.NoRight
+      → read_code y m q (span b p n) ≡ Err fault.NoRight
   unfolding read_code
   read_right k j w d l e =
       rw (within-beyond (bank_of y b) b p n w, every-not (λ i. may_read y m q b (p + i)) (span_words y m (span b p n)) j (rw (words-shown y m b p n k d) l) (reads-not y m q b (p + j) e))
 
   module _ (pc : ℕ) where
-    pub write-past : Past (bank_of y b).words p n → write_code y m q (span b p n) pc ≡ code.Error fault.PastEnd
+    pub write-past : Past (bank_of y b).words p n → write_code y m q (span b p n) pc ≡ Err fault.PastEnd
     unfolding write_code
     write-past f = rw (past-beyond (bank_of y b) b p n f)
 
-    pub write_right : (j : ℕ) → Within (bank_of y b).words p n → j < n → b < 4 → (MayWrite y m q b (p + j) → ⊥) → write_code y m q (span b p n) pc ≡ code.Error fault.NoRight
+    pub write_right : (j : ℕ) → Within (bank_of y b).words p n → j < n → b < 4 → (MayWrite y m q b (p + j) → ⊥) → write_code y m q (span b p n) pc ≡ Err fault.NoRight
     unfolding write_code
     write_right j w l s e = rw (within-beyond (bank_of y b) b p n w, every-not (λ i. may_write y m q b (p + i)) n j l (writes-not y m q b (p + j) s e))
 
@@ -74,7 +74,7 @@ module _ (y : Layout) (m : List ℕ) (q : Bool) (b p n : ℕ) where
     all_right f = every-all (λ i. may_write y m q b (p + i)) n (λ j l. writes-if y m q b (p + j) (f j l))
 
     pub write-pc : Within (bank_of y b).words p n → AllRight y m q b p n → TakesPc b p n → y.epc.words < length_of pc + 2
-        → write_code y m q (span b p n) pc ≡ code.Error fault.PastEnd
+        → write_code y m q (span b p n) pc ≡ Err fault.PastEnd
     unfolding write_code
     write-pc w f t l =
         rw (within-beyond (bank_of y b) b p n w, all_right f, eq-eqb b 1 t.0, le-leb p 1 t.1, lt-ltb 1 (p + n) t.2, lt-ltb y.epc.words (length_of pc + 2) l)
@@ -89,7 +89,7 @@ module _ (y : Layout) (m : List ℕ) (q : Bool) (b p n : ℕ) where
         go false u v d e g = refl
 
     pub write-many : Within (bank_of y b).words p n → AllRight y m q b p n → (TakesPc b p n → length_of pc + 2 ≤ y.epc.words) → pairs_in y < n
-        → write_code y m q (span b p n) pc ≡ code.Error fault.Other
+        → write_code y m q (span b p n) pc ≡ Err fault.Other
     unfolding write_code
     write-many w f g l = rw (within-beyond (bank_of y b) b p n w, all_right f, good-pc g, lt-ltb (pairs_in y) n l)
 
@@ -97,7 +97,7 @@ module _ (y : Layout) (m : List ℕ) (q : Bool) (b p n : ℕ) where
 module _ (y : Layout) (m : List ℕ) (mask action : ℕ) where
   pub lock_pair : (k : ℕ) → k < 5
       → let old = lock_word y m in let new = locked_to old mask action in
-      perma_bit old k ≡ 1 → (perma_bit new k ≢ 1) ⊎ (pwd_bit new k ≢ pwd_bit old k) → lock_code y m mask action ≡ code.Error fault.NoRight
+      perma_bit old k ≡ 1 → (perma_bit new k ≢ 1) ⊎ (pwd_bit new k ≢ pwd_bit old k) → lock_code y m mask action ≡ Err fault.NoRight
   unfolding lock_code
   lock_pair k l e d =
       rw (every-not (λ k. not (pair_breaks (lock_word y m) (locked_to (lock_word y m) mask action) k)) 5 k l (ap not (breaks-so d)))
@@ -114,9 +114,9 @@ module _ (y : Layout) (m : List ℕ) (mask action : ℕ) where
 
   pub lock_user : (b : ℕ) → mask % 4 ≢ 0
       → let new = locked_to (lock_word y m) mask action in
-      pwd_bit new 4 ≡ 0 → perma_bit new 4 ≡ 1 → b < blocks_in y → permalock y m b ≢ 0 → lock_code y m mask action ≡ code.Error fault.NoRight
+      pwd_bit new 4 ≡ 0 → perma_bit new 4 ≡ 1 → b < blocks_in y → permalock y m b ≢ 0 → lock_code y m mask action ≡ Err fault.NoRight
   unfolding lock_code
-  lock_user b f e d l g = ap (λ (t : Bool). cond first (code.Error fault.NoRight) (cond t (code.Error fault.NoRight) code.Nothing)) second ∙ either first
+  lock_user b f e d l g = ap (λ (t : Bool). cond first (Err fault.NoRight) (cond t (Err fault.NoRight) (Ok tt))) second ∙ either first
     where
       new : ℕ
       new = locked_to (lock_word y m) mask action
@@ -129,7 +129,7 @@ module _ (y : Layout) (m : List ℕ) (mask action : ℕ) where
           ap₂ (λ (t u : Bool). not t && (u && eqb (perma_bit new 4) 1) && some_permalock y m) (ne_eqb (mask % 4) 0 f) (eq-eqb (pwd_bit new 4) 0 e)
           ∙ ap₂ (λ (t u : Bool). t && not u) (eq-eqb (perma_bit new 4) 1 d) (every-not (λ i. eqb (permalock y m i) 0) (blocks_in y) b l (ne_eqb (permalock y m b) 0 g))
 
-      either : (t : Bool) → cond t (code.Error fault.NoRight) (code.Error fault.NoRight) ≡ code.Error fault.NoRight
+      either : (t : Bool) → cond t (Err fault.NoRight) (Err fault.NoRight) ≡ Err fault.NoRight
       either true = refl
       either false = refl
 
@@ -138,19 +138,19 @@ not-perma : (y : Layout) (b p n : ℕ) → (b ≢ 3) ⊎ (y.perma.words < p + n)
 not-perma y b p n (inl d) = ap (λ (t : Bool). not t || ltb y.perma.words (p + n)) (ne_eqb b 3 d)
 not-perma y b p n (inr l) = or_right (not (eqb b 3)) (ltb y.perma.words (p + n)) (lt-ltb y.perma.words (p + n) l)
 
-pub perma_read : (y : Layout) (b p n : ℕ) → (b ≢ 3) ⊎ (y.perma.words < p + n) → perma_read_code y (span b p n) ≡ code.Error fault.PastEnd
+pub perma_read : (y : Layout) (b p n : ℕ) → (b ≢ 3) ⊎ (y.perma.words < p + n) → perma_read_code y (span b p n) ≡ Err fault.PastEnd
 unfolding perma_read_code
 perma_read y b p n d = rw (not-perma y b p n d)
 
 module _ (y : Layout) (m : List ℕ) (f : List ℕ) (p n at : ℕ) where
-  pub perma_past : (b : ℕ) → (b ≢ 3) ⊎ (y.perma.words < p + n) → perma_code y m (span b p n) f at ≡ code.Error fault.PastEnd
+  pub perma_past : (b : ℕ) → (b ≢ 3) ⊎ (y.perma.words < p + n) → perma_code y m (span b p n) f at ≡ Err fault.PastEnd
   unfolding perma_code
   perma_past b d = rw (not-perma y b p n d)
 
   in-perma : p + n ≤ y.perma.words → not_perma y (span 3 p n) ≡ false
   in-perma l = le-ltb y.perma.words (p + n) l
 
-  pub perma_mask : (k : ℕ) → p + n ≤ y.perma.words → k < 16 * n → bit_at f (at + k) ≢ 0 → blocks_in y ≤ 16 * p + k → perma_code y m (span 3 p n) f at ≡ code.Error fault.PastEnd
+  pub perma_mask : (k : ℕ) → p + n ≤ y.perma.words → k < 16 * n → bit_at f (at + k) ≢ 0 → blocks_in y ≤ 16 * p + k → perma_code y m (span 3 p n) f at ≡ Err fault.PastEnd
   unfolding perma_code
   perma_mask k l i d e =
       rw (
@@ -160,7 +160,7 @@ module _ (y : Layout) (m : List ℕ) (f : List ℕ) (p n at : ℕ) where
       )
 
   pub perma_user : p + n ≤ y.perma.words → ((k : ℕ) → k < 16 * n → bit_at f (at + k) ≢ 0 → 16 * p + k < blocks_in y)
-      → pwd_bit (lock_word y m) 4 ≡ 0 → perma_bit (lock_word y m) 4 ≡ 1 → perma_code y m (span 3 p n) f at ≡ code.Error fault.NoRight
+      → pwd_bit (lock_word y m) 4 ≡ 0 → perma_bit (lock_word y m) 4 ≡ 1 → perma_code y m (span 3 p n) f at ≡ Err fault.NoRight
   unfolding perma_code
   perma_user l g e d =
       rw (in-perma l, every-all (λ k. eqb (bit_at f (at + k)) 0 || ltb (16 * p + k) (blocks_in y)) (16 * n) each, eq-eqb (pwd_bit (lock_word y m) 4) 0 e, eq-eqb (perma_bit (lock_word y m) 4) 1 d)
@@ -173,20 +173,20 @@ module _ (y : Layout) (m : List ℕ) (f : List ℕ) (p n at : ℕ) where
           go false z = lt-ltb (16 * p + k) (blocks_in y) (g k i (eqb-false (bit_at f (at + k)) 0 z))
 
 -- and no code where none is due
-pub read-clear : (y : Layout) (m : List ℕ) (q : Bool) (b p n k : ℕ) → Readable y m q b p n k → read_code y m q (span b p n) ≡ code.Nothing
+pub read-clear : (y : Layout) (m : List ℕ) (q : Bool) (b p n k : ℕ) → Readable y m q b p n k → read_code y m q (span b p n) ≡ (Ok tt)
 unfolding read_code
 read-clear y m q b p n k r =
     rw (within-beyond (bank_of y b) b p n r.within, every-all (λ i. may_read y m q b (p + i)) (span_words y m (span b p n)) (λ j l. reads-if y m q b (p + j) (r.right j (rw (words-shown y m b p n k r.shows) at l))))
 
-pub write-clear : (y : Layout) (m : List ℕ) (q : Bool) (b p n pc : ℕ) → Writable y m q b p n pc → write_code y m q (span b p n) pc ≡ code.Nothing
+pub write-clear : (y : Layout) (m : List ℕ) (q : Bool) (b p n pc : ℕ) → Writable y m q b p n pc → write_code y m q (span b p n) pc ≡ (Ok tt)
 unfolding write_code
 write-clear y m q b p n pc w =
     rw (within-beyond (bank_of y b) b p n w.within, all_right y m q b p n pc w.right, good-pc y m q b p n pc w.length, le-ltb (pairs_in y) n w.few)
 
-pub lock-clear : (y : Layout) (m : List ℕ) (mask action : ℕ) → Lockable y m mask action → lock_code y m mask action ≡ code.Nothing
+pub lock-clear : (y : Layout) (m : List ℕ) (mask action : ℕ) → Lockable y m mask action → lock_code y m mask action ≡ (Ok tt)
 unfolding lock_code
 lock-clear y m mask action l =
-    ap₂ (λ (t u : Bool). cond (not t) (code.Error fault.NoRight) (cond u (code.Error fault.NoRight) code.Nothing))
+    ap₂ (λ (t u : Bool). cond (not t) (Err fault.NoRight) (cond u (Err fault.NoRight) (Ok tt)))
     (every-all (λ k. not (pair_breaks (lock_word y m) new k)) 5 (λ k i. kept k (eqb (perma_bit (lock_word y m) k) 1) refl i))
     (user (eqb (mask % 4) 0) (eqb (pwd_bit new 4) 0) (eqb (perma_bit new 4) 1) refl refl refl)
   where
@@ -212,11 +212,11 @@ lock-clear y m mask action l =
         go false true false a b c = refl
         go false false v a b c = refl
 
-pub perma-read-clear : (y : Layout) (p n : ℕ) → p + n ≤ y.perma.words → perma_read_code y (span 3 p n) ≡ code.Nothing
+pub perma-read-clear : (y : Layout) (p n : ℕ) → p + n ≤ y.perma.words → perma_read_code y (span 3 p n) ≡ (Ok tt)
 unfolding perma_read_code
 perma-read-clear y p n l = rw (le-ltb y.perma.words (p + n) l)
 
-pub perma-clear : (y : Layout) (m : List ℕ) (p n : ℕ) (f : List ℕ) (at : ℕ) → PermaLockable y m p n f at → perma_code y m (span 3 p n) f at ≡ code.Nothing
+pub perma-clear : (y : Layout) (m : List ℕ) (p n : ℕ) (f : List ℕ) (at : ℕ) → PermaLockable y m p n f at → perma_code y m (span 3 p n) f at ≡ (Ok tt)
 unfolding perma_code
 perma-clear y m p n f at l =
     rw (le-ltb y.perma.words (p + n) l.within, every-all (λ k. eqb (bit_at f (at + k)) 0 || ltb (16 * p + k) (blocks_in y)) (16 * n) each, not-01 (eqb (pwd_bit (lock_word y m) 4) 0) (eqb (perma_bit (lock_word y m) 4) 1) refl refl)

@@ -30,8 +30,8 @@ use Rattle.replies.specs.Steps.{reply_bytes}
 use Rattle.replies.specs.Pack.{packed}
 use Rattle.replies.proofs.Laws.{length-reply}
 use Rattle.rights.specs.Rights.{bank_of}
-use Rattle.rights.specs.declared.Code.{Code}
-use Rattle.rights.specs.declared.Code.TheVariants as code
+use Rattle.rights.specs.Rights.{Code}
+use Rattle.std.specs.Prelude.{Ok, Err}
 use Rattle.rights.specs.declared.Fault.TheVariants as fault
 use Rattle.stores.specs.Stores.{change_stores}
 use Rattle.states.specs.declared.Half.{Half}
@@ -120,7 +120,7 @@ module _ (a : Air) (st : State) (r : Aside) (idle : Idle (layout_of a.image) a.i
 
   module _ (c : Command) (h : heard_of a.frame a.bits ≡ heard.said c) (w : wrong_command st c ≡ false)
       (b : halves_of (layout_of a.image) a.image st c.order ≡ 0)
-      (e : (effect_of (scene handed) c.order).code ≡ code.Nothing) (room : reply_bytes (effect_of (scene handed) c.order).reply ≤ length a.room)
+      (e : (effect_of (scene handed) c.order).code ≡ (Ok tt)) (room : reply_bytes (effect_of (scene handed) c.order).reply ≤ length a.room)
       (power : length (change_stores (layout_of a.image).work.at (effect_of (scene handed) c.order).words) ≤ a.power) where
     comes : Effect
     comes = effect_of (scene handed) c.order
@@ -135,7 +135,7 @@ module _ (a : Air) (st : State) (r : Aside) (idle : Idle (layout_of a.image) a.i
         ap (λ (z : Effect). reply_or z.code (link_of st).handle z.reply) effect_is
         ∙ ap (λ (c : Code). reply_or c (link_of st).handle comes.reply) e
 
-    code_is : (effect handed).code ≡ code.Nothing
+    code_is : (effect handed).code ≡ (Ok tt)
     unfolding comes
     code_is = ap (λ (z : Effect). z.code) effect_is ∙ e
 
@@ -234,18 +234,18 @@ module _ (a : Air) (r : Aside) (q : Round) (idle : Idle (layout_of a.image) a.im
   Comes n o st = Turns answer_of (layout_of a.image) a r q n o st (at st o).flags (record { state = (at st o).state; reply = (at st o).reply; words = (at st o).words })
 
   order-done : (st : State) (n : ℕ) (o : Order) → wrong_command st (record { number = n; order = o }) ≡ false
-      → halves_of (layout_of a.image) a.image st o ≡ 0 → (at st o).code ≡ code.Nothing → Comes n o st
+      → halves_of (layout_of a.image) a.image st o ≡ 0 → (at st o).code ≡ (Ok tt) → Comes n o st
   unfolding handed given comes at Comes
   order-done st n o w b e says enough =
       last_row a st r idle (record { number = n; order = o }) says w b e (in_bytes a st r idle (at st o).reply enough.0) enough.1
       ∙ given-done a st r idle (at st o).reply (at st o).flags (at st o).state (at st o).words
 
   secured-done : (k : Link) (o : Order) → Named (asks_of o).who → (asks_of o).cover && not (is_covered k.cover) ≡ false → (asks_of o).bad ≡ false
-      → halves_of (layout_of a.image) a.image (state.Secured k) o ≡ 0 → (at (state.Secured k) o).code ≡ code.Nothing → Comes k.handle o (state.Secured k)
+      → halves_of (layout_of a.image) a.image (state.Secured k) o ≡ 0 → (at (state.Secured k) o).code ≡ (Ok tt) → Comes k.handle o (state.Secured k)
   secured-done k o t c d b e = order-done (state.Secured k) k.handle o (rw (heard-secured (asks_of o).who k t, c, d)) b e
 
   open_done : (k : Link) (o : Order) → Named (asks_of o).who → needs_secured (asks_of o).who ≡ false → (asks_of o).cover && not (is_covered k.cover) ≡ false → (asks_of o).bad ≡ false
-      → halves_of (layout_of a.image) a.image (state.Open k) o ≡ 0 → (at (state.Open k) o).code ≡ code.Nothing → Comes k.handle o (state.Open k)
+      → halves_of (layout_of a.image) a.image (state.Open k) o ≡ 0 → (at (state.Open k) o).code ≡ (Ok tt) → Comes k.handle o (state.Open k)
   open_done k o t s c d b e = order-done (state.Open k) k.handle o (rw (heard-open (asks_of o).who k t s, c, d)) b e
 
 -- NAK, and the commands of inventory
@@ -277,8 +277,8 @@ module _ (a : Air) (r : Aside) (q : Round) (idle : Idle (layout_of a.image) a.im
   nonzero u v (inr d) = ap (λ (t : Bool). eqb u 0 && t) (ne_eqb v 0 d) ∙ and-false (eqb u 0)
 
   -- a kill password, and a right one
-  no_code : {b : Bool} → b ≡ false → cond b (code.Error fault.Other) code.Nothing ≡ code.Nothing
-  no_code e = ap (λ (t : Bool). cond t (code.Error fault.Other) code.Nothing) e
+  no_code : {b : Bool} → b ≡ false → cond b (Err fault.Other) (Ok tt) ≡ (Ok tt)
+  no_code e = ap (λ (t : Bool). cond t (Err fault.Other) (Ok tt)) e
 
   right : (up low u v : ℕ) → up ≡ u → low ≡ v → ◌≡◌ {A = ℕ} (cond (eqb up u && eqb low v) 0 12) 0
   right up low u v i j = ap (λ (b : Bool). cond b 0 12) (ap₂ ◌&&◌ (eq-eqb up u i) (eq-eqb low v j))
@@ -345,7 +345,7 @@ module _ (a : Air) (r : Aside) (q : Round) (idle : Idle (layout_of a.image) a.im
 module _ (a : Air) (r : Aside) (idle : Idle (layout_of a.image) a.image) where
   -- an order that comes to e
   comes-to : (st : State) (q : Round) (n : ℕ) (o : Order) (e : Effect) → wrong_command st (record { number = n; order = o }) ≡ false
-      → halves_of (layout_of a.image) a.image st o ≡ 0 → at a r q idle st o ≡ e → e.code ≡ code.Nothing
+      → halves_of (layout_of a.image) a.image st o ≡ 0 → at a r q idle st o ≡ e → e.code ≡ (Ok tt)
       → Turns answer_of (layout_of a.image) a r q n o st e.flags (record { state = e.state; reply = e.reply; words = e.words })
   unfolding Comes
   comes-to st q n o e w b h c =
@@ -432,7 +432,7 @@ module _ (a : Air) (r : Aside) (idle : Idle (layout_of a.image) a.image) where
   shown : State → Effect
   shown st =
       record {
-        code = code.Nothing;
+        code = (Ok tt);
         flags = r.flags;
         state = acknowledged st;
         reply = reply.Epc ((layout_of a.image).epc.at + 1) (length_of (pc_word (layout_of a.image) a.image) + 1);

@@ -32,8 +32,8 @@ use Rattle.replies.specs.declared.Reply.{Reply}
 use Rattle.replies.specs.declared.Reply.TheVariants as reply
 use Rattle.replies.specs.Replies.{reply_bits, reply_length}
 use Rattle.replies.specs.Pack.{packed}
-use Rattle.rights.specs.declared.Code.{Code}
-use Rattle.rights.specs.declared.Code.TheVariants as code
+use Rattle.rights.specs.Rights.{Code}
+use Rattle.std.specs.Prelude.{Ok, Err}
 use Rattle.rights.specs.declared.Fault.{Fault}
 use Rattle.rights.specs.declared.Fault.TheVariants as fault
 use Rattle.rights.specs.Rights.{read_code, write_code, lock_code, perma_read_code, perma_code, fault_number}
@@ -198,11 +198,11 @@ module _ (y : Layout) (a : Air) (st : State) (r : Aside) (idle : Idle y a.image)
         }
 
     row-10 : (e : Fault) → wrong_command st c ≡ false → halves_of (layout_of a.image) a.image st c.order ≡ 0
-        → (effect_of (scene handed) c.order).code ≡ code.Error e → 6 ≤ length a.room
+        → (effect_of (scene handed) c.order).code ≡ Err e → 6 ≤ length a.room
         → answers_to answer_of a (awake st false r) ≡ replied-as (reply.Error (fault_number e) (link_of st).handle)
     unfolding frame_of handed last replied-as
     row-10 e w b d l =
-        let code_is : (effect handed).code ≡ code.Error e = ap (λ (x : Message). (effect_of (scene handed) (command_in x).order).code) h ∙ d in
+        let code_is : (effect handed).code ≡ Err e = ap (λ (x : Message). (effect_of (scene handed) (command_in x).order).code) h ∙ d in
         let reply-is : reply_of handed ≡ reply.Error (fault_number e) (link_of st).handle = ap (λ (q : Code). reply_or q (link_of st).handle (effect handed).reply) code_is in
         first-at 10 (frame_of change_stores handed).rows (last handed)
         (ready 5 (drop 5 (frame_of change_stores handed).rows) (
@@ -580,18 +580,18 @@ module _ (a : Air) (r : Aside) (rd : Round) (idle : Idle (layout_of a.image) a.i
 
   -- the code of an order where no half waits
   code_by : Bool → Option ℕ → Order → Code
-  code_by q c (order.QueryRep k) = code.Nothing
-  code_by q c (order.Ack k) = code.Nothing
-  code_by q c (order.Query sel t x) = code.Nothing
-  code_by q c (order.QueryAdjust k u) = code.Nothing
-  code_by q c (order.Select x p) = code.Nothing
-  code_by q c order.Nak = code.Nothing
-  code_by q c order.ReqRn = code.Nothing
+  code_by q c (order.QueryRep k) = (Ok tt)
+  code_by q c (order.Ack k) = (Ok tt)
+  code_by q c (order.Query sel t x) = (Ok tt)
+  code_by q c (order.QueryAdjust k u) = (Ok tt)
+  code_by q c (order.Select x p) = (Ok tt)
+  code_by q c order.Nak = (Ok tt)
+  code_by q c order.ReqRn = (Ok tt)
   code_by q c (order.Read s) = read_code (layout_of a.image) a.image q s
   code_by q c (order.Write s w) = write_code (layout_of a.image) a.image q s (uncovered c w)
-  code_by q c (order.Kill w) = cond (zero_kill (layout_of a.image) a.image) (code.Error fault.Other) code.Nothing
+  code_by q c (order.Kill w) = cond (zero_kill (layout_of a.image) a.image) (Err fault.Other) (Ok tt)
   code_by q c (order.Lock mask action) = lock_code (layout_of a.image) a.image mask action
-  code_by q c (order.Access w) = code.Nothing
+  code_by q c (order.Access w) = (Ok tt)
   code_by q c (order.BlockWrite s at) = write_code (layout_of a.image) a.image q s (field_at a.frame (at + 16 * (1 - s.pointer)) 16)
   code_by q c (order.BlockErase s) = write_code (layout_of a.image) a.image q s 0
   code_by q c (order.ReadPermalock rfu s) = perma_read_code (layout_of a.image) s
@@ -600,7 +600,7 @@ module _ (a : Air) (r : Aside) (rd : Round) (idle : Idle (layout_of a.image) a.i
   scene-in : State → Scene
   scene-in st = record { layout = layout_of a.image; image = a.image; flags = r.flags; state = st; frame = a.frame; fresh = a.fresh }
 
-  ack-code : (b : Bool) (x z : Effect) → x.code ≡ code.Nothing → z.code ≡ code.Nothing → (cond b x z).code ≡ code.Nothing
+  ack-code : (b : Bool) (x z : Effect) → x.code ≡ (Ok tt) → z.code ≡ (Ok tt) → (cond b x z).code ≡ (Ok tt)
   ack-code true x z e f = e
   ack-code false x z e f = f
 
@@ -624,11 +624,11 @@ module _ (a : Air) (r : Aside) (rd : Round) (idle : Idle (layout_of a.image) a.i
   same_code (order.ReadPermalock rfu s) k e = (refl, refl)
   same_code (order.Permalock rfu s at) k e = (refl, refl)
 
-  never : (e : Fault) → code.Nothing ≡ code.Error e → ⊥
+  never : (e : Fault) → (Ok tt) ≡ Err e → ⊥
   never e d = let z : ◌≡◌ {A = ℕ} 0 1 = cc in omega arith
 
   -- 10, where no half waits
-  coded-to : (q : Bool) (c : Option ℕ) (o : Order) (e : Fault) → code_by q c o ≡ code.Error e → Addressed o
+  coded-to : (q : Bool) (c : Option ℕ) (o : Order) (e : Fault) → code_by q c o ≡ Err e → Addressed o
   unfolding code_by
   coded-to q c (order.QueryRep k) e d = absurd (never e d)
   coded-to q c (order.Ack k) e d = absurd (never e d)
@@ -647,12 +647,12 @@ module _ (a : Air) (r : Aside) (rd : Round) (idle : Idle (layout_of a.image) a.i
   coded-to q c (order.ReadPermalock rfu s) e d = tt
   coded-to q c (order.Permalock rfu s at) e d = tt
 
-  says-10 : (q : Bool) (h : ℕ) (c : Option ℕ) (o : Order) (e : Fault) → Says a h o → Needs q c o → 6 ≤ length a.room → code_by q c o ≡ code.Error e
+  says-10 : (q : Bool) (h : ℕ) (c : Option ℕ) (o : Order) (e : Fault) → Says a h o → Needs q c o → 6 ≤ length a.room → code_by q c o ≡ Err e
       → answers_to answer_of a (awake (linked q (link rd h c None)) false r) ≡ errs a r rd q h (fault_number e)
   unfolding handed replied-as scene-in
   says-10 q h c o e s f l d = go q f d
     where
-      go : (q : Bool) → Needs q c o → code_by q c o ≡ code.Error e → answers_to answer_of a (awake (linked q (link rd h c None)) false r) ≡ errs a r rd q h (fault_number e)
+      go : (q : Bool) → Needs q c o → code_by q c o ≡ Err e → answers_to answer_of a (awake (linked q (link rd h c None)) false r) ≡ errs a r rd q h (fault_number e)
       go true f d =
           row-10 (layout_of a.image) a (state.Secured (link rd h c None)) r idle (record { number = h; order = o }) s e
           (has_right rd h c None true (asks_of o) (numbered-order o (coded-to true c o e d)) (has o true c (coded-to true c o e d) f)) refl ((same_code o (link rd h c None) refl).0 ∙ d) l
@@ -741,7 +741,7 @@ module _ (a : Air) (r : Aside) (rd : Round) (idle : Idle (layout_of a.image) a.i
               says-10 q h c o fault.Other s (brings-needs o q c b p n pc f) l (brings-code o q c b p n pc f ∙ codes.write-many (layout_of a.image) a.image q b p n pc w g t e);
           kill-zero = λ k w e s u v.
               says-10 q h c (order.Kill w) fault.Other s (subst Covered (sym e) tt) l
-              (ap₂ (λ (t x : Bool). cond (t && x) (code.Error fault.Other) code.Nothing) (eq-eqb (kill_word (layout_of a.image) a.image 0) 0 u) (eq-eqb (kill_word (layout_of a.image) a.image 1) 0 v));
+              (ap₂ (λ (t x : Bool). cond (t && x) (Err fault.Other) (Ok tt)) (eq-eqb (kill_word (layout_of a.image) a.image 0) 0 u) (eq-eqb (kill_word (layout_of a.image) a.image 1) 0 v));
         }
 
     lock-lines : (h : ℕ) (c : Option ℕ) → Locks answer_of (layout_of a.image) a r rd h c

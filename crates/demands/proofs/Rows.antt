@@ -20,8 +20,8 @@ use Rattle.frames.specs.Message.{Message}
 use Rattle.frames.specs.Message as heard
 use Rattle.frames.specs.Frames.{heard_of}
 use Rattle.frames.proofs.Orders.{said-small}
-use Rattle.rights.specs.declared.Code.{Code}
-use Rattle.rights.specs.declared.Code.TheVariants as code
+use Rattle.rights.specs.Rights.{Code}
+use Rattle.std.specs.Prelude.{Ok, Err}
 use Rattle.stores.specs.Stores.{change_stores}
 use Rattle.tag.specs.declared.Session.{Session}
 use Rattle.tag.specs.Result.{Result, lost, first_of}
@@ -133,9 +133,9 @@ ends-whole s xs a b p q = go (dec_lt s (length xs))
     go (yes l) = absurd (let z : ◌≡◌ {A = ℕ} 11 0 = sym p ∙ sym (ap (λ (t : Bool). (cond t a b).number) (lt-ltb s (length xs) l)) ∙ q in omega arith)
     go (no l) = omega arith
 
-no-error : (e : Code) (b : Bool) → is_error e && b ≡ false → b ≡ true → e ≡ code.Nothing
-no-error code.Nothing b p q = refl
-no-error (code.Error e) b p q =
+no-error : (e : Code) (b : Bool) → is_error e && b ≡ false → b ≡ true → e ≡ (Ok tt)
+no-error (Ok u) b p q = refl
+no-error (Err e) b p q =
     absurd (true≢false (sym q ∙ p))
 
 -- a frame
@@ -184,7 +184,7 @@ module _ (v : Session) (m f : List ℕ) (bits fresh : ℕ) (room : List ℕ) (g 
       at : Message → Effect
       at x = effect_of (scene (with-power 0)) (command_in x).order
 
-      go : (x : Message) → heard_of f bits ≡ x → (at x).code ≡ code.Nothing → Plan (layout_of m) m (at x).words
+      go : (x : Message) → heard_of f bits ≡ x → (at x).code ≡ (Ok tt) → Plan (layout_of m) m (at x).words
       go (heard.refused k) q e = no-plan (layout_of m) m
       go (heard.said c) q e = order-plan (layout_of m) m g (live_of v.power).flags (live_of v.power).state f fresh c.order (said-small f bits c q) e
 

@@ -25,8 +25,8 @@ use Rattle.replies.specs.declared.Reply.TheVariants as reply
 use Rattle.replies.specs.Replies.{reply_bits, reply_length}
 use Rattle.replies.specs.Pack.{packed}
 use Rattle.replies.proofs.Laws.{packed_none}
-use Rattle.rights.specs.declared.Code.{Code}
-use Rattle.rights.specs.declared.Code.TheVariants as code
+use Rattle.rights.specs.Rights.{Code}
+use Rattle.std.specs.Prelude.{Ok, Err}
 use Rattle.rights.specs.declared.Fault.TheVariants as fault
 use Rattle.tag.specs.declared.Session.{Session}
 use Rattle.tag.specs.Session.{off_session}
@@ -118,19 +118,19 @@ module _ (v : Session) (m f : List ℕ) (bits fresh : ℕ) (room : List ℕ) (s 
 
   -- a code's reply is an error reply, whatever the reply without it
   error-length : (e : Code) (b : Bool) (h : ℕ) (r : Reply) → is_error e && b ≡ true → reply_length (reply_or e h r) ≡ 41
-  error-length code.Nothing b h r q = absurd (false≢true q)
-  error-length (code.Error c) b h r q = refl
+  error-length (Ok u) b h r q = absurd (false≢true q)
+  error-length (Err c) b h r q = refl
 
   error-same : (e : Code) (b : Bool) (h : ℕ) (r : Reply) → is_error e && b ≡ true → reply_or e h r ≡ reply_or e h reply.Silence
-  error-same code.Nothing b h r q = absurd (false≢true q)
-  error-same (code.Error c) b h r q = refl
+  error-same (Ok u) b h r q = absurd (false≢true q)
+  error-same (Err c) b h r q = refl
 
   -- and it is one of the three
   code-known : (e : Code) (b : Bool) → is_error e && b ≡ true → AnErrorCode e
-  code-known code.Nothing b q = absurd (false≢true q)
-  code-known (code.Error fault.Other) b q = inl refl
-  code-known (code.Error fault.PastEnd) b q = inr (inl refl)
-  code-known (code.Error fault.NoRight) b q = inr (inr refl)
+  code-known (Ok u) b q = absurd (false≢true q)
+  code-known (Err fault.Other) b q = inl refl
+  code-known (Err fault.PastEnd) b q = inr (inl refl)
+  code-known (Err fault.NoRight) b q = inr (inr refl)
 
   error-row : is_error (effect handed).code && fits (reply_of handed) room ≡ true → Tabled tag call (replied handed 10 (moved_to (live handed) (used (state_of handed))) [])
   unfolding tag call handed

@@ -5,8 +5,8 @@ use Rattle.image.specs.declared.Layout.{Layout}
 use Rattle.image.specs.Layout.{layout_of}
 use Rattle.image.specs.Content.{count_in}
 use Rattle.image.specs.Check.{check_of, good}
-use Rattle.rights.specs.declared.Code.{Code}
-use Rattle.rights.specs.declared.Code.TheVariants as code
+use Rattle.rights.specs.Rights.{Code}
+use Rattle.std.specs.Prelude.{Ok, Err}
 use Rattle.stores.specs.Stores.{change_stores, power_stores}
 use Rattle.stores.specs.Cuts.{with_byte}
 use Rattle.states.specs.declared.Flags.{Flags}
@@ -135,13 +135,13 @@ stores_in t (write at d s) = change_stores (layout_of t.image).work.at (words_in
 
 -- the error code of a frame's command
 abbrev pub code_in : Tag → Call → Code
-code_in t (power_up s) = code.Nothing
+code_in t (power_up s) = (Ok tt)
 code_in t (frame f bits fresh room s) = (effect (input t.session t.image f bits fresh room s)).code
-code_in t ask = code.Nothing
-code_in t release = code.Nothing
-code_in t register = code.Nothing
-code_in t (read at count room) = code.Nothing
-code_in t (write at d s) = code.Nothing
+code_in t ask = (Ok tt)
+code_in t release = (Ok tt)
+code_in t register = (Ok tt)
+code_in t (read at count room) = (Ok tt)
+code_in t (write at d s) = (Ok tt)
 
 -- what it hands back as a value where it is done: the register, 0 where it reads none
 abbrev pub value_in : Tag → Call → ℕ

@@ -11,8 +11,8 @@ use Rattle.image.specs.Rules.{Header, Good}
 use Rattle.replies.specs.declared.Reply.TheVariants as reply
 use Rattle.replies.specs.Replies.{reply_bits}
 use Rattle.replies.specs.Pack.{packed}
-use Rattle.rights.specs.declared.Code.{Code}
-use Rattle.rights.specs.declared.Code.TheVariants as code
+use Rattle.rights.specs.Rights.{Code}
+use Rattle.std.specs.Prelude.{Ok, Err}
 use Rattle.rights.specs.Rights.{pwd_bit, perma_bit, fault_number}
 use Rattle.stores.specs.Cuts.{Cut, reaches}
 use Rattle.frames.specs.declared.Round.{Round}
@@ -40,8 +40,8 @@ falls_back n = eqb n 12 || eqb n 14
 
 -- the error codes
 abbrev pub AnErrorCode : Code → Type 0
-AnErrorCode code.Nothing = ⊥
-AnErrorCode (code.Error e) = (fault_number e ≡ 0x00) ⊎ (fault_number e ≡ 0x03) ⊎ (fault_number e ≡ 0x04)
+AnErrorCode (Ok u) = ⊥
+AnErrorCode (Err e) = (fault_number e ≡ 0x00) ⊎ (fault_number e ≡ 0x03) ⊎ (fault_number e ≡ 0x04)
 
 -- number by number: 1 to 9 and 13 leave everything (of a power-up with an Off session); 10 gives the error reply of its code, leaves the
 -- image and uses up the cover number; 11 comes where the power lasts for fewer stores than are needed, and leaves the first s of them, Off

@@ -69,7 +69,6 @@ joined-low a b s p q = go (dec_le s 8)
         rw f p
 
 joined-stands : (y : Layout) (i a b : ℕ) → Ok y i a → Ok y i b → Ok y i (joined a b)
-unfolding may_stand
 joined-stands y i a b = go (eqb i y.status.at) (eqb i (y.status.at + 1)) (eqb i (y.epc.at + 1)) (eqb (i + 1) (end y.perma))
   where
     test : Bool → Bool → Bool → Bool → ℕ → Bool

@@ -1,5 +1,5 @@
 -- What the code makes of a session's numbers is what the table makes of the session. Assumes nothing.
-use Rattle.std.specs.Prelude.{Option, None, Some}
+use Rattle.std.specs.Prelude.{Option, None, Some, Result, Ok, Err}
 use Prim.Native.Nat.{ℕ, ◌+◌, ◌-◌, ◌*◌}
 use mathlib.Core.Path.{◌≡◌, refl, sym, ap, ◌∙◌}
 use mathlib.Core.Bool.{Bool, true, false, cond, not, ◌&&◌, ◌||◌}
@@ -28,8 +28,8 @@ use Rattle.replies.specs.declared.Reply.{Reply}
 use Rattle.replies.specs.declared.Reply.TheVariants as reply
 use Rattle.replies.specs.Replies.{reply_bits, reply_length}
 use Rattle.replies.specs.Pack.{packed}
-use Rattle.rights.specs.declared.Code.{Code}
-use Rattle.rights.specs.declared.Code.TheVariants as code
+use Rattle.rights.specs.Rights.{Code}
+use Rattle.rights.specs.declared.Fault.{Fault}
 use Rattle.rights.specs.declared.Fault.TheVariants as fault
 use Rattle.rights.specs.Rights.{fault_number, read_code, write_code, lock_code, perma_read_code, perma_code}
 use Rattle.stores.specs.Stores.{change_stores}
@@ -60,7 +60,7 @@ use Rattle.tag.specs.Port.{bit_of, number_in}
 use Rattle.tag.specs.Table.{fits, turned_to, moved_to}
 use Rattle.tag.specs.Records.{blank, numbers_on, numbers_of, in_numbers}
 use Rattle.tag.specs.Steps.{stays, tells, error_by, done_by, on_session, kept, error_end, done_end, end_by, scene_of, halves_by, order_of, command_of, heard_by}
-use Rattle.tag.specs.ByNumber.{done_at, dropped_at, error_at, tell_at, store_at, drawn_at, rep_at, adjust_at, query_at, ack_at, select_at, calling_at, CallPlaced, perform_at, gated_at, command_at}
+use Rattle.tag.specs.ByNumber.{done_at, dropped_at, error_at, tell_at, store_at, drawn_at, rep_at, adjust_at, query_at, ack_at, select_at, calling_at, CallPlaced, decided_at, gated_at, command_at}
 use Rattle.tag.proofs.Plans.{tell-any, silent-end}
 
 -- an end over sessions is the same end over their numbers
@@ -260,9 +260,7 @@ module _ (l : Live) (y : Layout) (m f : List ℕ) (fresh : ℕ) (room : List ℕ
       go true false true = fall-turn l m room y.work.at s
       go true false false = fall-turn l m room y.work.at s
 
-  pub calling-by : (c : Calling) → calling_at y (numbers_on l) m f fresh room c ≡ in_numbers (heard_by l y m f fresh room s (called c))
-  calling-by call.Malformed = refl
-  calling-by call.Checksum = refl
+  pub calling-by : (c : Calling) → calling_at y (numbers_on l) m f fresh room c ≡ in_numbers (heard_by l y m f fresh room s (called (Ok c)))
   calling-by (call.QueryRep k) = rep-by k
   calling-by (call.Ack n) = ack-by n
   calling-by (call.Query sel t k q) = query-by sel t (record { session = k; q = q })
@@ -270,9 +268,7 @@ module _ (l : Live) (y : Layout) (m f : List ℕ) (fresh : ℕ) (room : List ℕ
   calling-by (call.Select c p) = select-by c p
 
 -- where a Select's mask begins
-pub call-placed : (f : List ℕ) (n : ℕ) (c : Calling) → called c ≡ heard_of f n → CallPlaced c
-call-placed f n call.Malformed e = tt
-call-placed f n call.Checksum e = tt
+pub call-placed : (f : List ℕ) (n : ℕ) (c : Calling) → called (Ok c) ≡ heard_of f n → CallPlaced c
 call-placed f n (call.QueryRep k) e = tt
 call-placed f n (call.Ack k) e = tt
 call-placed f n (call.Query sel t k q) e = tt
@@ -284,8 +280,8 @@ module _ (l : Live) (y : Layout) (m f : List ℕ) (fresh : ℕ) (room : List ℕ
   abbrev handle : ℕ
   handle = (link_of l.state).handle
 
-  abbrev performs : Plan → Left Numbers
-  performs p = perform_at (numbers_on l) handle y m f fresh room s p
+  abbrev performs : Result Plan Fault → Left Numbers
+  performs p = decided_at (numbers_on l) handle y m f fresh room s p
 
   abbrev used_now : Session
   used_now = moved_to l (used l.state)
@@ -305,10 +301,10 @@ module _ (l : Live) (y : Layout) (m f : List ℕ) (fresh : ℕ) (room : List ℕ
       ∙ sym (ends-in m room (on_session l) used_now y.work.at s (reply.Success handle) ss)
 
   -- an order by its error code
-  code-by : (c : Code) (p : Plan) (x : Effect) → performs p ≡ in_numbers (done_end l y.work.at m room s x.reply (turned_to l x.flags x.state) x.words)
+  code-by : (c : Code) (p : Plan) (x : Effect) → performs (Ok p) ≡ in_numbers (done_end l y.work.at m room s x.reply (turned_to l x.flags x.state) x.words)
       → performs (or_error c p) ≡ in_numbers (end_by c l y.work.at m room s x)
-  code-by code.Nothing p x h = h
-  code-by (code.Error e) p x h = error-by (fault_number e)
+  code-by (Ok u) p x h = h
+  code-by (Err e) p x h = error-by (fault_number e)
 
   abbrev ends : Effect → Left Numbers
   ends x = in_numbers (end_by x.code l y.work.at m room s x)
@@ -322,12 +318,12 @@ module _ (l : Live) (y : Layout) (m f : List ℕ) (fresh : ℕ) (room : List ℕ
 
   -- a half of Kill and of Access, by the half that waits
   kill-by : (h : ℕ) (a : Option Half) → is_linked l.state ≡ true → halves_row y m (link_of l.state) a (part.Kill h) ≡ 0
-      → performs (cond (eqb (half_in a) 0) (cond (zero_kill y m) (plan.Error fault.Other) (plan.Half 2 (bare_of (numbers_on l) h))) (plan.Kill 1 (y.status.at + 1)))
+      → performs (cond (eqb (half_in a) 0) (cond (zero_kill y m) (Err fault.Other) (Ok (plan.Half 2 (bare_of (numbers_on l) h)))) (Ok (plan.Kill 1 (y.status.at + 1))))
       ≡ ends (half_kill (scene_of l y m f fresh) h a)
   kill-by h None e b = go (zero_kill y m)
     where
-      go : (z : Bool) → performs (cond z (plan.Error fault.Other) (plan.Half 2 (bare_of (numbers_on l) h)))
-          ≡ in_numbers (end_by (cond z (code.Error fault.Other) code.Nothing) l y.work.at m room s (half_kill (scene_of l y m f fresh) h None))
+      go : (z : Bool) → performs (cond z (Err fault.Other) (Ok (plan.Half 2 (bare_of (numbers_on l) h))))
+          ≡ in_numbers (end_by (cond z (Err fault.Other) (Ok tt)) l y.work.at m room s (half_kill (scene_of l y m f fresh) h None))
       go true = error-by (fault_number fault.Other)
       go false =
           ap (λ (u : ℕ). tell_at (numbers_on l) m room (reply.Number handle) (halved_in (numbers_on l) 2 u)) (bare-in (link_of l.state).cover h)
@@ -337,7 +333,7 @@ module _ (l : Live) (y : Layout) (m f : List ℕ) (fresh : ℕ) (room : List ℕ
       sym (ends-in m room (on_session l) (moved_to l state.Killed) y.work.at s (reply.Success handle) (store (y.status.at + 1) 1 ∷ []))
 
   access-by : (h : ℕ) (a : Option Half) → is_linked l.state ≡ true → halves_row y m (link_of l.state) a (part.Access h) ≡ 0
-      → performs (cond (eqb (half_in a) 0) (plan.Half 1 (bare_of (numbers_on l) h)) plan.Secure) ≡ ends (half_access (scene_of l y m f fresh) h a)
+      → performs (Ok (cond (eqb (half_in a) 0) (plan.Half 1 (bare_of (numbers_on l) h)) plan.Secure)) ≡ ends (half_access (scene_of l y m f fresh) h a)
   access-by h None e b =
       ap (λ (u : ℕ). tell_at (numbers_on l) m room (reply.Number handle) (halved_in (numbers_on l) 1 u)) (bare-in (link_of l.state).cover h)
       ∙ half-by (Some (half.Access (uncovered (link_of l.state).cover h))) e
@@ -372,14 +368,14 @@ module _ (l : Live) (y : Layout) (m f : List ℕ) (fresh : ℕ) (room : List ℕ
 
   -- a number that passes is the handle
   by-handle : (n : ℕ) (o : Order) → ToOne o → wrong_by l.state n (asks_of o) ≡ false → halves_of y m l.state o ≡ 0 → Named (asks_of o).who
-      → perform_at (numbers_on l) n y m f fresh room s (plan_of y m f (numbers_on l) o) ≡ in_numbers (order_of l y m f fresh room s o)
+      → decided_at (numbers_on l) n y m f fresh room s (plan_of y m f (numbers_on l) o) ≡ in_numbers (order_of l y m f fresh room s o)
   by-handle n o u w b named =
       let e = passes-handle l.state (asks_of o) n w named in
-      ap (λ (k : ℕ). perform_at (numbers_on l) k y m f fresh room s (plan_of y m f (numbers_on l) o)) e
+      ap (λ (k : ℕ). decided_at (numbers_on l) k y m f fresh room s (plan_of y m f (numbers_on l) o)) e
       ∙ order-by o u (ap (λ (k : ℕ). wrong_by l.state k (asks_of o)) (sym e) ∙ w) b
 
   passed-by : (n : ℕ) (o : Order) → ToOne o → wrong_by l.state n (asks_of o) ≡ false → halves_of y m l.state o ≡ 0
-      → perform_at (numbers_on l) n y m f fresh room s (plan_of y m f (numbers_on l) o) ≡ in_numbers (order_of l y m f fresh room s o)
+      → decided_at (numbers_on l) n y m f fresh room s (plan_of y m f (numbers_on l) o) ≡ in_numbers (order_of l y m f fresh room s o)
   passed-by n (order.QueryRep k) u w b = absurd u
   passed-by n (order.Ack k) u w b = absurd u
   passed-by n (order.Query sel t q) u w b = absurd u
@@ -404,7 +400,7 @@ module _ (l : Live) (y : Layout) (m f : List ℕ) (fresh : ℕ) (room : List ℕ
       ∙ go (wrong_by l.state c.number (asks_of c.order)) refl
     where
       by : ℕ → Left Numbers
-      by g = cond (eqb g 0) (perform_at (numbers_on l) c.number y m f fresh room s (plan_of y m f (numbers_on l) c.order)) (gated_at g (numbers_on l) m room)
+      by g = cond (eqb g 0) (decided_at (numbers_on l) c.number y m f fresh room s (plan_of y m f (numbers_on l) c.order)) (gated_at g (numbers_on l) m room)
 
       says : ℕ
       says = halves_of y m l.state c.order

@@ -44,7 +44,7 @@ module _ (v : Numbers) (fit : Fit v) (m f : List ℕ) (n fresh : ℕ) (room : Li
   unfolding said
   heard-refused k e = ap (λ (w : Numbers). stays k w m room) (sym fit) ∙ ap said (sym e)
 
-  pub heard-calling : (c : Calling) → called c ≡ heard_of f n → calling_at (layout_of m) v m f fresh room c ≡ heard_at v m f n fresh room s
+  pub heard-calling : (c : Calling) → called (Ok c) ≡ heard_of f n → calling_at (layout_of m) v m f fresh room c ≡ heard_at v m f n fresh room s
   unfolding said
   heard-calling c e =
       ap (λ (w : Numbers). calling_at (layout_of m) w m f fresh room c) (sym fit)

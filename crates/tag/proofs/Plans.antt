@@ -22,8 +22,8 @@ use Rattle.stores.specs.Stores.{change_stores}
 use Rattle.stores.specs.Steps.{Made}
 use Rattle.bits.specs.Words.{Store}
 use Rattle.rights.proofs.Banks.{bank-end as Banks·bank-end, read-ends}
-use Rattle.rights.specs.declared.Code.{Code}
-use Rattle.rights.specs.declared.Code.TheVariants as code
+use Rattle.rights.specs.Rights.{Code}
+use Rattle.std.specs.Prelude.{Ok, Err}
 use Rattle.rights.specs.declared.Fault.{Fault}
 use Rattle.rights.specs.declared.Fault.TheVariants as fault
 use Rattle.bits.specs.Bits.{bit_at, field_at}
@@ -38,13 +38,13 @@ use Rattle.states.specs.Commands.{zero_kill}
 use Rattle.states.specs.declared.Numbers.{Numbers}
 use Rattle.states.specs.ByNumber.{bare_of}
 use Rattle.tag.specs.Steps.{stays, tells, done_by}
-use Rattle.tag.specs.ByNumber.{store_at, finish_at, Sound}
+use Rattle.tag.specs.ByNumber.{store_at, finish_at, Sound, SoundWhere}
 
 -- a row that does not hold, and those after it
-none_row : (b : Bool) (e : Fault) (rest : Code) → cond b (code.Error e) rest ≡ code.Nothing → (b ≡ false) × (rest ≡ code.Nothing)
+none_row : (b : Bool) (e : Fault) (rest : Code) → cond b (Err e) rest ≡ (Ok tt) → (b ≡ false) × (rest ≡ (Ok tt))
 none_row true e rest h = absurd (never h)
   where
-    never : code.Error e ≡ code.Nothing → ⊥
+    never : Err e ≡ (Ok tt) → ⊥
     never h = let z : ◌≡◌ {A = ℕ} 0 1 = cc in omega arith
 none_row false e rest h = (refl, h)
 
@@ -83,27 +83,27 @@ module _ (y : Layout) (h : List ℕ) (g : Header y h) where
   held_low o l = held o 1 (omega arith) (omega (arith, g.pairs_least))
 
   -- what each code's rows say where none holds
-  read-rows : (m : List ℕ) (q : Bool) (s : Span) → read_code y m q s ≡ code.Nothing → beyond (bank_of y s.bank) s ≡ false
+  read-rows : (m : List ℕ) (q : Bool) (s : Span) → read_code y m q s ≡ (Ok tt) → beyond (bank_of y s.bank) s ≡ false
   unfolding read_code
   read-rows m q s e = (none_row _ _ _ e).0
 
-  pub write-rows : (m : List ℕ) (q : Bool) (s : Span) (pc : ℕ) → write_code y m q s pc ≡ code.Nothing
+  pub write-rows : (m : List ℕ) (q : Bool) (s : Span) (pc : ℕ) → write_code y m q s pc ≡ (Ok tt)
       → (beyond (bank_of y s.bank) s ≡ false) × (s.count ≤ pairs_in y) × (every (λ j. may_write y m q s.bank (s.pointer + j)) s.count ≡ true) × (bad_pc y s pc ≡ false)
   unfolding write_code
   write-rows m q s pc e =
       let a = none_row (beyond (bank_of y s.bank) s) fault.PastEnd _ e in
       let b = none_row (not (every (λ j. may_write y m q s.bank (s.pointer + j)) s.count)) fault.NoRight _ a.1 in
       let c = none_row (bad_pc y s pc) fault.PastEnd _ b.1 in
-      (a.0, ltb-false _ _ (none_row (ltb (pairs_in y) s.count) fault.Other code.Nothing c.1).0, not-false _ b.0, c.0)
+      (a.0, ltb-false _ _ (none_row (ltb (pairs_in y) s.count) fault.Other (Ok tt) c.1).0, not-false _ b.0, c.0)
 
   perma-fit : (s : Span) → not_perma y s ≡ false → s.pointer + s.count ≤ y.perma.words
   perma-fit s e = ltb-false _ _ (none_or (not (eqb s.bank 3)) (ltb y.perma.words (s.pointer + s.count)) e).1
 
-  read-perma-rows : (s : Span) → perma_read_code y s ≡ code.Nothing → s.pointer + s.count ≤ y.perma.words
+  read-perma-rows : (s : Span) → perma_read_code y s ≡ (Ok tt) → s.pointer + s.count ≤ y.perma.words
   unfolding perma_read_code
   read-perma-rows s e = perma-fit s (none_row _ _ _ e).0
 
-  pub perma-rows : (m : List ℕ) (s : Span) (f : List ℕ) (p : ℕ) → perma_code y m s f p ≡ code.Nothing
+  pub perma-rows : (m : List ℕ) (s : Span) (f : List ℕ) (p : ℕ) → perma_code y m s f p ≡ (Ok tt)
       → (s.pointer + s.count ≤ y.perma.words) × (every (λ k. eqb (bit_at f (p + k)) 0 || ltb (16 * s.pointer + k) (blocks_in y)) (16 * s.count) ≡ true)
   unfolding perma_code
   perma-rows m s f p e =
@@ -111,7 +111,7 @@ module _ (y : Layout) (h : List ℕ) (g : Header y h) where
       let b = none_row (not (every (λ k. eqb (bit_at f (p + k)) 0 || ltb (16 * s.pointer + k) (blocks_in y)) (16 * s.count))) fault.PastEnd _ a.1 in
       (perma-fit s a.0, not-false _ b.0)
 
-  pub lock-rows : (m : List ℕ) (mask action : ℕ) → lock_code y m mask action ≡ code.Nothing
+  pub lock-rows : (m : List ℕ) (mask action : ℕ) → lock_code y m mask action ≡ (Ok tt)
       → every (λ k. not (pair_breaks (lock_word y m) (locked_to (lock_word y m) mask action) k)) 5 ≡ true
   unfolding lock_code
   lock-rows m mask action e = not-false _ (none_row (not (every (λ k. not (pair_breaks (lock_word y m) (locked_to (lock_word y m) mask action) k)) 5)) fault.NoRight _ e).0
@@ -126,27 +126,27 @@ module _ (y : Layout) (h : List ℕ) (g : Header y h) where
 
   module _ (m : List ℕ) (q : Bool) where
     -- the words of a Read, and of a BlockPermalock that reads
-    pub read_fits : (s : Span) → length_of (pc_word y m) + 2 ≤ y.epc.words → read_code y m q s ≡ code.Nothing
+    pub read_fits : (s : Span) → length_of (pc_word y m) + 2 ≤ y.epc.words → read_code y m q s ≡ (Ok tt)
         → (2 * (place_of y s + span_words y m s) ≤ length h) × (span_words y m s < 65536)
     read_fits s l e =
         let r = span-end m s l (read-rows m q s e) in
         (omega (arith, r, bank-end s.bank, g.whole), omega (arith, r, bank-end s.bank, work-small))
 
-    pub read-perma-fits : (s : Span) → perma_read_code y s ≡ code.Nothing → (2 * (y.perma.at + s.pointer + s.count) ≤ length h) × (s.count < 65536)
+    pub read-perma-fits : (s : Span) → perma_read_code y s ≡ (Ok tt) → (2 * (y.perma.at + s.pointer + s.count) ≤ length h) × (s.count < 65536)
     read-perma-fits s e =
         let w = read-perma-rows s e in
         (omega (arith, w, g.work.at, g.whole), omega (arith, w, perma-small))
 
     -- the words that are stored
-    pub word_held : (s : Span) (pc : ℕ) → write_code y m q s pc ≡ code.Nothing → Holds y.work.at (place_of y s) 1 (length h)
+    pub word_held : (s : Span) (pc : ℕ) → write_code y m q s pc ≡ (Ok tt) → Holds y.work.at (place_of y s) 1 (length h)
     word_held s pc e =
         let r = write-rows m q s pc e in
         held-span s 1 (omega (arith, g.pairs_least)) (omega (arith, within-bank s r.0))
 
-    pub words-held : (s : Span) (pc : ℕ) → write_code y m q s pc ≡ code.Nothing → Holds y.work.at (place_of y s) s.count (length h)
+    pub words-held : (s : Span) (pc : ℕ) → write_code y m q s pc ≡ (Ok tt) → Holds y.work.at (place_of y s) s.count (length h)
     words-held s pc e = let r = write-rows m q s pc e in held-span s s.count r.1 (within-bank s r.0).1
 
-    pub mask-held : (s : Span) (f : List ℕ) (p : ℕ) → perma_code y m s f p ≡ code.Nothing
+    pub mask-held : (s : Span) (f : List ℕ) (p : ℕ) → perma_code y m s f p ≡ (Ok tt)
         → Holds y.work.at (y.perma.at + s.pointer) s.count (length h) × (s.count ≤ 16)
     mask-held s f p e =
         let w = perma-rows m s f p e in
@@ -203,9 +203,9 @@ module _ (v u : Numbers) (h w : ℕ) (m room : List ℕ) (s : ℕ) (ss : List St
 
 -- a plan that an order comes to can be performed
 module _ (w n : ℕ) where
-  code-sound : (c : Code) (p : Plan) → (c ≡ code.Nothing → Sound w n p) → Sound w n (or_error c p)
-  code-sound code.Nothing p h = h refl
-  code-sound (code.Error e) p h = tt
+  code-sound : (c : Code) (p : Plan) → (c ≡ (Ok tt) → Sound w n p) → SoundWhere w n (or_error c p)
+  code-sound (Ok u) p h = h refl
+  code-sound (Err e) p h = tt
 
 module _ (y : Layout) (m f : List ℕ) (good : Good y m) where
   g : Header y m
@@ -217,7 +217,7 @@ module _ (y : Layout) (m f : List ℕ) (good : Good y m) where
       let p = (good.content 0).pc in
       (omega (arith, p, bank-end y m g 1, g.whole), omega (arith, p, bank-end y m g 1, work-small y m g))
 
-  kill-sound : (a b : Bool) (up : ℕ) → Sound y.work.at (length m) (cond a (cond b (plan.Error fault.Other) (plan.Half 2 up)) (plan.Kill 1 (y.status.at + 1)))
+  kill-sound : (a b : Bool) (up : ℕ) → SoundWhere y.work.at (length m) (cond a (cond b (Err fault.Other) (Ok (plan.Half 2 up))) (Ok (plan.Kill 1 (y.status.at + 1))))
   kill-sound true true up = tt
   kill-sound true false up = tt
   kill-sound false b up = killed-held y m g
@@ -226,7 +226,7 @@ module _ (y : Layout) (m f : List ℕ) (good : Good y m) where
   access-sound true up = tt
   access-sound false up = tt
 
-  pub plan-sound : (v : Numbers) (o : Order) → Placed o → Sound y.work.at (length m) (plan_of y m f v o)
+  pub plan-sound : (v : Numbers) (o : Order) → Placed o → SoundWhere y.work.at (length m) (plan_of y m f v o)
   plan-sound v (order.QueryRep k) q = tt
   plan-sound v (order.Ack n) q = tt
   plan-sound v (order.Query sel t r) q = tt

@@ -19,7 +19,7 @@ use Rattle.states.specs.Steps.{stop_number}
 use Rattle.states.specs.ByNumber.{past, fallen_in, acknowledged_in, idle_in, queried_in, matches_in, slot_out, selected_in, gate_in}
 use Rattle.tag.specs.Result.{Left}
 use Rattle.tag.specs.Steps.{stays}
-use Rattle.tag.specs.ByNumber.{done_at, dropped_at, tell_at, drawn_at, query_at, ack_at, select_at, perform_at, gated_at, command_at}
+use Rattle.tag.specs.ByNumber.{done_at, dropped_at, tell_at, drawn_at, query_at, ack_at, select_at, decided_at, gated_at, command_at}
 
 module _ (v : Numbers) (fresh : ℕ) (m room : List ℕ) where
   pub query-way : (sel t k q : ℕ) (a b : Bool) → eqb v.state 7 ≡ a → matches_in (queried_in v k) sel t k ≡ b
@@ -61,12 +61,12 @@ module _ (y : Layout) (v : Numbers) (m room : List ℕ) where
       by z w = cond z (stays 9 v m room) (cond w (stays 9 v m room) (done_at (selected_in v x (selects y m f x.bits p)) 0 0 m room))
 
   pub command-way : (f : List ℕ) (fresh s : ℕ) (c : Command) {g : ℕ} → g ≡ gate_in y m v c.number c.order
-      → cond (eqb g 0) (perform_at v c.number y m f fresh room s (plan_of y m f v c.order)) (gated_at g v m room)
+      → cond (eqb g 0) (decided_at v c.number y m f fresh room s (plan_of y m f v c.order)) (gated_at g v m room)
       ≡ command_at y v m f fresh room s c
   unfolding command_at
   command-way f fresh s c e =
       ap
-      (λ (g : ℕ). cond (eqb g 0) (perform_at v c.number y m f fresh room s (plan_of y m f v c.order)) (gated_at g v m room))
+      (λ (g : ℕ). cond (eqb g 0) (decided_at v c.number y m f fresh room s (plan_of y m f v c.order)) (gated_at g v m room))
       e
 
   -- stopped by the gate

@@ -1,5 +1,5 @@
 -- What a frame comes to over a session's numbers, as the code goes. Equal to the table's steps by the laws of proofs/ByNumber. Assumes nothing.
-use Rattle.std.specs.Prelude.{ℕ, ◌+◌, ◌*◌, ◌≤◌, ◌<◌, ◌≡◌, cond, not, ◌&&◌, List, [], ◌∷◌, eqb, ltb}
+use Rattle.std.specs.Prelude.{Result, Ok, Err, ℕ, ◌+◌, ◌*◌, ◌≤◌, ◌<◌, ◌≡◌, cond, not, ◌&&◌, List, [], ◌∷◌, eqb, ltb}
 use Rattle.bits.specs.Words.{Store, store}
 use Rattle.bits.specs.Below.{below}
 use Rattle.image.specs.declared.Layout.{Layout}
@@ -14,6 +14,7 @@ use Rattle.replies.specs.declared.Reply.{Reply}
 use Rattle.replies.specs.declared.Reply.TheVariants as reply
 use Rattle.replies.specs.Replies.{reply_bits, reply_length}
 use Rattle.replies.specs.Pack.{packed}
+use Rattle.rights.specs.declared.Fault.{Fault}
 use Rattle.rights.specs.Rights.{fault_number}
 use Rattle.stores.specs.Steps.{word_from}
 use Rattle.changes.specs.Changes.{Holds, or_to}
@@ -112,8 +113,6 @@ select_at y v c p m f room =
 
 -- a frame of inventory, and where its mask begins
 abbrev pub calling_at : Layout → Numbers → List ℕ → List ℕ → ℕ → List ℕ → Calling → Left Numbers
-calling_at y v m f fresh room call.Malformed = stays 7 v m room
-calling_at y v m f fresh room call.Checksum = stays 8 v m room
 calling_at y v m f fresh room (call.QueryRep k) = rep_at v k fresh m room
 calling_at y v m f fresh room (call.Ack n) = ack_at y v n m room
 calling_at y v m f fresh room (call.Query sel t k q) = query_at v sel t k q fresh m room
@@ -121,8 +120,6 @@ calling_at y v m f fresh room (call.QueryAdjust k u) = adjust_at v k u fresh m r
 calling_at y v m f fresh room (call.Select c p) = select_at y v c p m f room
 
 abbrev pub CallPlaced : Calling → Type 0
-CallPlaced call.Malformed = Unit {0}
-CallPlaced call.Checksum = Unit {0}
 CallPlaced (call.QueryRep k) = Unit {0}
 CallPlaced (call.Ack n) = Unit {0}
 CallPlaced (call.Query sel t k q) = Unit {0}
@@ -132,7 +129,6 @@ CallPlaced (call.Select c p) = (p ≤ 51) × (c.bits.count < 256)
 -- a plan that an image of n bytes with WORK at word w can take
 abbrev pub Sound : ℕ → ℕ → Plan → Type 0
 Sound w n plan.Nothing = Unit {0}
-Sound w n (plan.Error e) = Unit {0}
 Sound w n plan.Fall = Unit {0}
 Sound w n plan.Number = Unit {0}
 Sound w n (plan.Half kind up) = Unit {0}
@@ -144,10 +140,14 @@ Sound w n (plan.Bits at k p) = Holds w at k n × (p ≤ 51)
 Sound w n (plan.Zeros at k) = Holds w at k n
 Sound w n (plan.Mask at k p) = Holds w at k n × (p ≤ 51) × (k ≤ 16)
 
+-- the same of a plan, or an error in its place
+abbrev pub SoundWhere : ℕ → ℕ → Result Plan Fault → Type 0
+SoundWhere w n (Ok p) = Sound w n p
+SoundWhere w n (Err e) = Unit {0}
+
 -- the words that a plan stores
 abbrev pub words_of : List ℕ → List ℕ → Plan → List Store
 words_of m f plan.Nothing = []
-words_of m f (plan.Error e) = []
 words_of m f plan.Fall = []
 words_of m f plan.Number = []
 words_of m f (plan.Half kind up) = []
@@ -162,7 +162,6 @@ words_of m f (plan.Mask at n p) = below (or_to m f at p) n
 -- what a plan comes to, with this handle
 abbrev pub perform_at : Numbers → ℕ → Layout → List ℕ → List ℕ → ℕ → List ℕ → ℕ → Plan → Left Numbers
 perform_at v h y m f fresh room s plan.Nothing = stays 9 v m room
-perform_at v h y m f fresh room s (plan.Error e) = error_at v h m room (fault_number e)
 perform_at v h y m f fresh room s plan.Fall = done_at (fallen_in v) 0 0 m room
 perform_at v h y m f fresh room s plan.Number = tell_at v m room (reply.Number fresh) (numbered_in y m fresh v)
 perform_at v h y m f fresh room s (plan.Half kind up) = tell_at v m room (reply.Number h) (halved_in v kind up)
@@ -174,6 +173,11 @@ perform_at v h y m f fresh room s (plan.Bits at n p) = store_at v h (used_in v) 
 perform_at v h y m f fresh room s (plan.Zeros at n) = store_at v h (used_in v) y.work.at m room s (below (λ j. store (at + j) 0) n)
 perform_at v h y m f fresh room s (plan.Mask at n p) = store_at v h (used_in v) y.work.at m room s (below (or_to m f at p) n)
 
+-- a plan performed, or the error in its place
+abbrev pub decided_at : Numbers → ℕ → Layout → List ℕ → List ℕ → ℕ → List ℕ → ℕ → Result Plan Fault → Left Numbers
+decided_at v h y m f fresh room s (Ok p) = perform_at v h y m f fresh room s p
+decided_at v h y m f fresh room s (Err e) = error_at v h m room (fault_number e)
+
 -- a command that the gate stops with this number
 abbrev pub gated_at : ℕ → Numbers → List ℕ → List ℕ → Left Numbers
 gated_at g v m room = cond (eqb g 9) (stays 9 v m room) (cond (eqb g 12) (dropped_at 12 v m room) (dropped_at 14 v m room))
@@ -182,7 +186,7 @@ gated_at g v m room = cond (eqb g 9) (stays 9 v m room) (cond (eqb g 12) (droppe
 unfoldable pub command_at : Layout → Numbers → List ℕ → List ℕ → ℕ → List ℕ → ℕ → Command → Left Numbers
 command_at y v m f fresh room s c =
     let g = gate_in y m v c.number c.order in
-    cond (eqb g 0) (perform_at v c.number y m f fresh room s (plan_of y m f v c.order)) (gated_at g v m room)
+    cond (eqb g 0) (decided_at v c.number y m f fresh room s (plan_of y m f v c.order)) (gated_at g v m room)
 
 -- the session under power that a record's numbers are those of
 abbrev pub live_at : Numbers → Live

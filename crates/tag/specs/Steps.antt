@@ -13,8 +13,8 @@ use Rattle.replies.specs.declared.Reply.{Reply}
 use Rattle.replies.specs.declared.Reply.TheVariants as reply
 use Rattle.replies.specs.Replies.{reply_bits, reply_length}
 use Rattle.replies.specs.Pack.{packed}
-use Rattle.rights.specs.declared.Code.{Code}
-use Rattle.rights.specs.declared.Code.TheVariants as code
+use Rattle.rights.specs.Rights.{Code}
+use Rattle.std.specs.Prelude.{Ok, Err}
 use Rattle.rights.specs.Rights.{fault_number}
 use Rattle.stores.specs.Stores.{change_stores, power_stores}
 use Rattle.states.specs.declared.State.{State}
@@ -114,8 +114,8 @@ needed_for c = cond (eqb c 0) 0 (3 * c + 2)
 
 -- an order that no refusal stops, by its error code
 abbrev pub end_by : Code → Live → ℕ → List ℕ → List ℕ → ℕ → Effect → Result
-end_by code.Nothing l w m room s x = done_end l w m room s x.reply (turned_to l x.flags x.state) x.words
-end_by (code.Error e) l w m room s x = error_end l (link_of l.state).handle m room (fault_number e)
+end_by (Ok u) l w m room s x = done_end l w m room s x.reply (turned_to l x.flags x.state) x.words
+end_by (Err e) l w m room s x = error_end l (link_of l.state).handle m room (fault_number e)
 
 abbrev pub scene_of : Live → Layout → List ℕ → List ℕ → ℕ → Scene
 scene_of l y m f fresh = record { layout = y; image = m; flags = l.flags; state = l.state; frame = f; fresh = fresh }

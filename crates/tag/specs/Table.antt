@@ -13,8 +13,8 @@ use Rattle.frames.specs.declared.Order.TheVariants as order
 use Rattle.replies.specs.declared.Reply.{Reply}
 use Rattle.replies.specs.declared.Reply.TheVariants as reply
 use Rattle.replies.specs.Replies.{reply_bits, reply_length}
-use Rattle.rights.specs.declared.Code.{Code}
-use Rattle.rights.specs.declared.Code.TheVariants as code
+use Rattle.rights.specs.Rights.{Code}
+use Rattle.std.specs.Prelude.{Ok, Err}
 use Rattle.rights.specs.Rights.{fault_number}
 use Rattle.states.specs.declared.Flags.{Flags}
 use Rattle.states.specs.declared.State.{State}
@@ -85,13 +85,13 @@ abbrev pub effect : Input → Effect
 effect i = effect_of (scene i) (command i).order
 
 abbrev pub is_error : Code → Bool
-is_error code.Nothing = false
-is_error (code.Error e) = true
+is_error (Ok u) = false
+is_error (Err e) = true
 
 -- the reply: the error's where there is one
 abbrev pub reply_or : Code → ℕ → Reply → Reply
-reply_or code.Nothing handle r = r
-reply_or (code.Error e) handle r = reply.Error (fault_number e) handle
+reply_or (Ok u) handle r = r
+reply_or (Err e) handle r = reply.Error (fault_number e) handle
 
 abbrev pub reply_of : Input → Reply
 reply_of i = reply_or (effect i).code (link_of (state_of i)).handle (effect i).reply

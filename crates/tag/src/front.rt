@@ -10,13 +10,7 @@ use crate::{Answer, Session};
 pub fn checked(image: &[u8]) -> Result<bool, Answer>
     ensures { (ready_in result ≡ ready_row image.now) × Rejects result }
 {
-    match image::ready(image) {
-        0 => Ok(false),
-        1 => Err(Answer::Short),
-        2 => Err(Answer::Header),
-        3 => Err(Answer::Content),
-        _ => Ok(true),
-    }
+    Ok(image::ready(image)?)
 }
 
 // The answer of an image that is no good, or has pending words.

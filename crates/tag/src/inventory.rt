@@ -154,8 +154,6 @@ pub fn calling(
     ensures { noted result image.now room.new ≡ calling_at (layout_of image.now) (numbers_in r) image.now frame.now fresh room.old c }
 {
     match c {
-        Calling::Malformed => noting::refused(r, Answer::Malformed),
-        Calling::Checksum => noting::refused(r, Answer::Checksum),
         Calling::QueryRep(k) => query_rep(r, k, fresh, image, room),
         Calling::Ack(n) => ack(r, n, image, room),
         Calling::Query(sel, target, k, q) => query(r, sel, target, k, q, fresh, image, room),

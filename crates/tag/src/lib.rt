@@ -2,6 +2,8 @@
 #![tactic(auto)]
 
 ghost use Rattle.std.specs.Prelude.{◌≡◌};
+ghost use Rattle.image.specs.Check.{refusal_number};
+ghost use Rattle.frames.specs.Message.{flaw_number};
 ghost use Rattle.tag.specs.Session.{number_of};
 
 mod acting;
@@ -14,7 +16,9 @@ mod radio;
 mod recording;
 mod starting;
 
+use frames::Flaw;
 pub use frames::Round;
+use image::Refusal;
 pub use port::read_words;
 pub use radio::frame;
 pub use recording::{fits, off_record, record_of, session_of};
@@ -106,6 +110,31 @@ impl From<Answer> for u8 {
             Answer::Password => 12,
             Answer::Count => 13,
             Answer::Halves => 14,
+        }
+    }
+}
+
+// The answer of an image that the check refuses.
+impl From<Refusal> for Answer {
+    ghost from_gives = { λ r a. number_of a ≡ refusal_number r };
+
+    fn from(refusal: Refusal) -> Answer {
+        match refusal {
+            Refusal::Short => Answer::Short,
+            Refusal::Header => Answer::Header,
+            Refusal::Content => Answer::Content,
+        }
+    }
+}
+
+// The answer of a frame that says nothing.
+impl From<Flaw> for Answer {
+    ghost from_gives = { λ w a. number_of a ≡ flaw_number w };
+
+    fn from(flaw: Flaw) -> Answer {
+        match flaw {
+            Flaw::Malformed => Answer::Malformed,
+            Flaw::Checksum => Answer::Checksum,
         }
     }
 }

@@ -10,7 +10,7 @@ ghost use Rattle.tag.specs.Records.{session_of, in_numbers};
 ghost use Rattle.tag.specs.ByNumber.{noted, Fit, heard_at, outcome_of};
 
 use crate::{Answer, Noted, Outcome, Session, acting, front, inventory, noting, recording};
-use frames::Heard;
+use frames::Frame;
 use states::{Numbers, Record};
 
 // What a frame says to a session that the front lets pass.
@@ -27,20 +27,18 @@ fn hearing(
     requires fit { Fit (numbers_in r) }
     ensures { noted result image.new room.new ≡ heard_at (numbers_in r) image.old frame.now n fresh room.old s }
 {
-    if n < 4 {
+    let Some(said) = Frame::of(frame, n) else {
         return noting::refused(r, Answer::Malformed);
+    };
+    if said.code() < 0xC0 {
+        return match said.call() {
+            Ok(c) => inventory::calling(r, c, image, frame, fresh, room),
+            Err(flaw) => noting::refused(r, Answer::from(flaw)),
+        };
     }
-    if frame.len() <= (n - 1) / 8 {
-        return noting::refused(r, Answer::Malformed);
-    }
-    let code = frame[0];
-    if code < 0xC0 {
-        return inventory::calling(r, frames::call(frame, n, code), image, frame, fresh, room);
-    }
-    match frames::hear(frame, n, code) {
-        Heard::Malformed => noting::refused(r, Answer::Malformed),
-        Heard::Checksum => noting::refused(r, Answer::Checksum),
-        Heard::Said(c) => acting::command(r, c, image, frame, fresh, room, s),
+    match said.hear() {
+        Ok(c) => acting::command(r, c, image, frame, fresh, room, s),
+        Err(flaw) => noting::refused(r, Answer::from(flaw)),
     }
 }
 

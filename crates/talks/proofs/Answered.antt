@@ -28,8 +28,8 @@ use Rattle.replies.specs.declared.Reply.TheVariants as reply
 use Rattle.replies.specs.Replies.{reply_bits, reply_length}
 use Rattle.replies.specs.Pack.{packed}
 use Rattle.replies.proofs.Laws.{packed_none, length-reply}
-use Rattle.rights.specs.declared.Code.{Code}
-use Rattle.rights.specs.declared.Code.TheVariants as code
+use Rattle.rights.specs.Rights.{Code}
+use Rattle.std.specs.Prelude.{Ok, Err}
 use Rattle.rights.specs.declared.Fault.{Fault}
 use Rattle.rights.specs.declared.Fault.TheVariants as fault
 use Rattle.rights.specs.Rights.{bank_of, read_end, span_words, read_code, perma_read_code, beyond}
@@ -62,11 +62,11 @@ use Rattle.talks.specs.Talks.{Hearing, input_of, given, Answered}
 
 -- by its error code: an error with the handle, or the reply
 coded : (m : List ℕ) (n : ℕ) (a : Option Awaited) (k : Code) (handle : ℕ) (r : Reply) → handle ≡ n → ((e : ℕ) → e < 256 → Replies m n a (reply.Error e n))
-    → (k ≡ code.Nothing → Replies m n a r) → Replies m n a (reply_or k handle r)
-coded m n a code.Nothing handle r e f g = g refl
-coded m n a (code.Error fault.Other) handle r e f g = rw e (f 0 (omega arith))
-coded m n a (code.Error fault.PastEnd) handle r e f g = rw e (f 3 (omega arith))
-coded m n a (code.Error fault.NoRight) handle r e f g = rw e (f 4 (omega arith))
+    → (k ≡ (Ok tt) → Replies m n a r) → Replies m n a (reply_or k handle r)
+coded m n a (Ok u) handle r e f g = g refl
+coded m n a (Err fault.Other) handle r e f g = rw e (f 0 (omega arith))
+coded m n a (Err fault.PastEnd) handle r e f g = rw e (f 3 (omega arith))
+coded m n a (Err fault.NoRight) handle r e f g = rw e (f 4 (omega arith))
 
 -- a tag that comes to Reply draws the fresh word; else it is silent
 draws : (m : List ℕ) (n fresh : ℕ) → fresh < 65536 → (ready again : Bool) (q : Round) (slot : ℕ)
@@ -96,7 +96,7 @@ most y m b g = go (eqb b 0) (eqb b 1) (eqb b 2)
     go false false false = g.header.user.most
 
 -- no code, so not the first
-first-row : (b : Bool) (f : Fault) (rest : Code) → cond b (code.Error f) rest ≡ code.Nothing → b ≡ false
+first-row : (b : Bool) (f : Fault) (rest : Code) → cond b (Err f) rest ≡ (Ok tt) → b ≡ false
 first-row true f rest e = ap is_error e
 first-row false f rest e = refl
 
@@ -105,7 +105,7 @@ module _ (y : Layout) (m : List ℕ) (q : Bool) (p : Place) (k : ℕ) (g : Good 
   abbrev s : Span
   s = span p.bank p.pointer k
 
-  inside : read_code y m q s ≡ code.Nothing → (p.pointer < (bank_of y p.bank).words) × (p.pointer + k ≤ (bank_of y p.bank).words)
+  inside : read_code y m q s ≡ (Ok tt) → (p.pointer < (bank_of y p.bank).words) × (p.pointer + k ≤ (bank_of y p.bank).words)
   unfolding read_code
   inside e = within-bank y m g.header s (first-row (beyond (bank_of y p.bank) s) fault.PastEnd _ e)
 
@@ -120,7 +120,7 @@ module _ (y : Layout) (m : List ℕ) (q : Bool) (p : Place) (k : ℕ) (g : Good 
       go true false e = l
       go false b e = l
 
-  shown-words : (n o : ℕ) → read_code y m q s ≡ code.Nothing → Replies m n (Some (await.Words k)) (reply.Words o (span_words y m s) n)
+  shown-words : (n o : ℕ) → read_code y m q s ≡ (Ok tt) → Replies m n (Some (await.Words k)) (reply.Words o (span_words y m s) n)
   shown-words n o e = go (eqb k 0) refl
     where
       go : (b : Bool) → eqb k 0 ≡ b → Replies m n (Some (await.Words k)) (reply.Words o (cond b (read_end y m p.bank p.pointer - p.pointer) k) n)
