@@ -499,7 +499,7 @@ module _ (m : List ℕ) (st : State) (r : Aside) (idle : Idle (layout_of m) m) w
   holder : Session
   holder = awake st true r
 
-  past : (room : List ℕ) (bad : Bool) (rest : Rows) → bad ≡ false → NoRow rest → None (refusals holder m room bad ++ rest)
+  past : (room : List ℕ) (bad : Bool) (rest : Rows) → bad ≡ false → NoRow rest → NoRow (refusals holder m room bad ++ rest)
   unfolding holder
   past room bad rest e h =
       let c = check-0 m (layout_of m) (sym idle.sound) in

@@ -84,7 +84,7 @@ place_of y s = (bank_of y s.bank).at + s.pointer
 -- second is right was asked before (`halves_of`), and where a half of the other password waits the answer was 14: the last line never counts
 abbrev pub half_kill : Scene → ℕ → Option Half → Effect
 half_kill c h None =
-    unless (cond (zero_kill c.layout c.image) (Err fault.Other) Ok tt) (waits c (Some (half.Kill (bare c h))))
+    unless (cond (zero_kill c.layout c.image) (Err fault.Other) (Ok tt)) (waits c (Some (half.Kill (bare c h))))
 half_kill c h (Some (half.Kill up)) = does c state.Killed (reply.Success (handle_in c)) (store (c.layout.status.at + 1) 1 ∷ [])
 half_kill c h (Some (half.Access up)) = does c c.state (reply.Number (handle_in c)) []
 

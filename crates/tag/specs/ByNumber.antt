@@ -145,20 +145,6 @@ abbrev pub SoundWhere : ℕ → ℕ → Result Plan Fault → Type 0
 SoundWhere w n (Ok p) = Sound w n p
 SoundWhere w n (Err e) = Unit {0}
 
--- the words that a plan stores
-abbrev pub words_of : List ℕ → List ℕ → Plan → List Store
-words_of m f plan.Nothing = []
-words_of m f plan.Fall = []
-words_of m f plan.Number = []
-words_of m f (plan.Half kind up) = []
-words_of m f plan.Secure = []
-words_of m f (plan.Kill w at) = store at w ∷ []
-words_of m f (plan.Words at k) = []
-words_of m f (plan.Word w at) = store at w ∷ []
-words_of m f (plan.Bits at n p) = below (word_from at f p) n
-words_of m f (plan.Zeros at n) = below (λ j. store (at + j) 0) n
-words_of m f (plan.Mask at n p) = below (or_to m f at p) n
-
 -- what a plan comes to, with this handle
 abbrev pub perform_at : Numbers → ℕ → Layout → List ℕ → List ℕ → ℕ → List ℕ → ℕ → Plan → Left Numbers
 perform_at v h y m f fresh room s plan.Nothing = stays 9 v m room

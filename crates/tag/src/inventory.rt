@@ -24,22 +24,22 @@ fn drawn(
     ensures { noted result image.now room.new ≡ drawn_at (numbers_in r) flags round q slot fresh image.now room.old }
 {
     let v = Numbers::from(r);
-    let turned = Numbers {
-        flags,
-        round,
-        q,
-        ..v
-    };
     if slot != 0 {
         let next = Numbers {
+            flags,
+            round,
+            q,
             slot,
-            ..leaving::bare(turned, 2)
+            ..leaving::bare(v, 2)
         };
         return noting::done(next, 0, 0);
     }
     let next = Numbers {
+        flags,
+        round,
+        q,
         number: fresh,
-        ..leaving::bare(turned, 3)
+        ..leaving::bare(v, 3)
     };
     noting::give_drawn(r, next, fresh, image, room)
 }

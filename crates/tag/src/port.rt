@@ -14,6 +14,8 @@ ghost use Rattle.tag.specs.Result.{first_of, result_of};
 
 use crate::{Answer, Live, Outcome, Register, Session, answering, front, recording, starting};
 use image::Layout;
+use rights::Blocks;
+use stores::Words;
 
 // A session under power.
 fn on(l: Live) -> Session
@@ -71,7 +73,7 @@ fn bad_data(y: Layout, at: usize, words: &[u8]) -> bool
     ensures { result ≡ bad_data y at words.now }
 {
     let n = words.len();
-    n % 2 != 0 || bad_count(y, at, n / 2) || image::pairs(y) < n / 2
+    n % 2 != 0 || bad_count(y, at, n / 2) || y.pairs() < n / 2
 }
 
 // Killed, under power.
@@ -147,7 +149,7 @@ fn is_open(image: &[u8], y: Layout) -> bool
 {
     states::access_word(image, y, 0) == 0
         && states::access_word(image, y, 1) == 0
-        && rights::pwd_bit(bits::word(image, y.status.at as usize), 4) == 0
+        && rights::pair_in(bits::word(image, y.status.at as usize), 4).pwd == 0
 }
 
 // In a mask of zeros, a byte for each of n USER words from word `at` on: 1 where its block is permalocked, asked once for each block. Answers how many are 0.
@@ -156,21 +158,20 @@ fn mark(mask: &mut [u8], image: &[u8], y: Layout, at: usize, n: usize) -> usize
     requires by_index { (j : ℕ) → j < n → get_or mask.old j 0 ≡ 0 }
     ensures { Masked y image.now at mask.new n result × (result ≤ n) }
 {
-    if rights::none_locked(image, y, at, n) {
+    let blocks = Blocks { image, layout: y };
+    if blocks.none_locked(at, n) {
         return n;
     }
     let mut writable: usize = 0;
     let mut locked: u8 = 0;
     let mut next = at;
-    let mut j: usize = 0;
-    while j < n {
+    for j in 0..n {
         if at + j == next {
-            locked = recording::bit(rights::block_locked(image, y, at + j));
-            next = rights::next_block(y, at + j);
+            locked = recording::bit(blocks.locked(at + j));
+            next = blocks.next(at + j);
         }
         mask[j] = locked;
         writable += 1 - locked as usize;
-        j += 1;
     }
     writable
 }
@@ -188,7 +189,14 @@ fn store_open(l: Live, y: Layout, image: &mut [u8], at: usize, words: &[u8], s: 
     let writable = mark(&mut mask, image, y, at, n);
     let need = answering::needed(writable);
     let place = y.user.at as usize + at;
-    let made = stores::change(image, y.work.at as usize, place, n, words, 0, &mask, s);
+    let open = Words {
+        at: place,
+        n,
+        bytes: words,
+        from: 0,
+        skip: &mask,
+    };
+    let made = stores::change(image, y.work.at as usize, open, s);
     if s < need {
         return starting::stopped(Answer::PowerLost, made);
     }

@@ -54,11 +54,10 @@ pub fn frame(
 ) -> Noted
     ensures { noted result image.new room.new ≡ in_numbers (first_of (frame_of change_stores (record { session = session_of (numbers_in r); image = image.old; frame = frame.now; bits = n; fresh = fresh; room = room.old; power = s }))) }
 {
-    let ready = front::ready(image);
     if !recording::fits(r) {
-        return noting::refused(recording::off_record(), front::or_five(ready));
+        return noting::refused(recording::off_record(), front::or_five(front::ready(image)));
     }
-    if let Err(answer) = ready {
+    if let Err(answer) = front::ready(image) {
         return noting::refused(r, answer);
     }
     if Numbers::from(r).held != 0 {

@@ -225,17 +225,17 @@ fn bare_fits(r: Record, v: Numbers) -> bool
 fn no_state(v: Numbers) -> bool
     ensures { result ≡ no_state v }
 {
-    v.state == 0 || 7 < v.state
+    (v.state == 0) | (7 < v.state)
 }
 
 // Port, register, cover or flags past their bits, which are asked of the whole number at once.
 fn too_large(r: Record) -> bool
     ensures { result ≡ too_large (numbers_in r) }
 {
-    r.low / 0x200 % 0x80 != 0
-        || r.low / 0x4_0000 % 0x40 != 0
-        || r.low / 0x200_0000 % 0x80 != 0
-        || r.low / 0x2000_0000_0000_0000 != 0
+    (r.low / 0x200 % 0x80 != 0)
+        | (r.low / 0x4_0000 % 0x40 != 0)
+        | (r.low / 0x200_0000 % 0x80 != 0)
+        | (r.low / 0x2000_0000_0000_0000 != 0)
 }
 
 // A state holds only what belongs to it.
