@@ -16,43 +16,47 @@ use Rattle.plans.specs.Effects.{place_of}
 use Rattle.plans.specs.declared.Plan.{Plan}
 use Rattle.plans.specs.declared.Plan.TheVariants as plan
 
+-- a plan, or the error that the order meets
+abbrev pub Decided : Type 0
+Decided = Result Plan Fault
+
 -- an error code, or the plan
-abbrev pub or_error : Code → Plan → Result Plan Fault
+abbrev pub or_error : Code → Plan → Decided
 or_error (Ok u) p = Ok p
 or_error (Err e) p = Err e
 
-abbrev pub read_plan : Layout → List ℕ → Bool → Span → Result Plan Fault
+abbrev pub read_plan : Layout → List ℕ → Bool → Span → Decided
 read_plan y m q s = or_error (read_code y m q s) (plan.Words (place_of y s) (span_words y m s))
 
-abbrev pub write_plan : Layout → List ℕ → Bool → Span → ℕ → Result Plan Fault
+abbrev pub write_plan : Layout → List ℕ → Bool → Span → ℕ → Decided
 write_plan y m q s w = or_error (write_code y m q s w) (plan.Word w (place_of y s))
 
 -- a half of a Kill and of an Access, by the half that waits
-abbrev pub kill_plan : Layout → List ℕ → Numbers → ℕ → Result Plan Fault
+abbrev pub kill_plan : Layout → List ℕ → Numbers → ℕ → Decided
 kill_plan y m v h =
     cond (eqb v.half 0) (cond (zero_kill y m) (Err fault.Other) (Ok (plan.Half 2 (bare_of v h)))) (Ok (plan.Kill 1 (y.status.at + 1)))
 
 abbrev pub access_plan : Numbers → ℕ → Plan
 access_plan v h = cond (eqb v.half 0) (plan.Half 1 (bare_of v h)) plan.Secure
 
-abbrev pub lock_plan : Layout → List ℕ → ℕ → ℕ → Result Plan Fault
+abbrev pub lock_plan : Layout → List ℕ → ℕ → ℕ → Decided
 lock_plan y m mask action = or_error (lock_code y m mask action) (plan.Word (locked_to (lock_word y m) mask action) y.status.at)
 
-abbrev pub block_write_plan : Layout → List ℕ → List ℕ → Bool → Span → ℕ → Result Plan Fault
+abbrev pub block_write_plan : Layout → List ℕ → List ℕ → Bool → Span → ℕ → Decided
 block_write_plan y m f q s p =
     or_error (write_code y m q s (field_at f (p + 16 * (1 - s.pointer)) 16)) (plan.Bits (place_of y s) s.count p)
 
-abbrev pub block_erase_plan : Layout → List ℕ → Bool → Span → Result Plan Fault
+abbrev pub block_erase_plan : Layout → List ℕ → Bool → Span → Decided
 block_erase_plan y m q s = or_error (write_code y m q s 0) (plan.Zeros (place_of y s) s.count)
 
-abbrev pub read_permalock_plan : Layout → Span → Result Plan Fault
+abbrev pub read_permalock_plan : Layout → Span → Decided
 read_permalock_plan y s = or_error (perma_read_code y s) (plan.Words (y.perma.at + s.pointer) s.count)
 
-abbrev pub permalock_plan : Layout → List ℕ → List ℕ → Span → ℕ → Result Plan Fault
+abbrev pub permalock_plan : Layout → List ℕ → List ℕ → Span → ℕ → Decided
 permalock_plan y m f s p = or_error (perma_code y m s f p) (plan.Mask (y.perma.at + s.pointer) s.count p)
 
 -- an order, none of inventory, by the session's numbers
-abbrev pub plan_of : Layout → List ℕ → List ℕ → Numbers → Order → Result Plan Fault
+abbrev pub plan_of : Layout → List ℕ → List ℕ → Numbers → Order → Decided
 plan_of y m f v (order.QueryRep k) = Ok plan.Nothing
 plan_of y m f v (order.Ack n) = Ok plan.Nothing
 plan_of y m f v (order.Query sel t q) = Ok plan.Nothing

@@ -1,5 +1,5 @@
 -- What the code makes of a session's numbers is what the table makes of the session. Assumes nothing.
-use Rattle.std.specs.Prelude.{Option, None, Some, Result, Ok, Err}
+use Rattle.std.specs.Prelude.{Option, None, Some, Ok, Err}
 use Prim.Native.Nat.{ℕ, ◌+◌, ◌-◌, ◌*◌}
 use mathlib.Core.Path.{◌≡◌, refl, sym, ap, ◌∙◌}
 use mathlib.Core.Bool.{Bool, true, false, cond, not, ◌&&◌, ◌||◌}
@@ -29,7 +29,6 @@ use Rattle.replies.specs.declared.Reply.TheVariants as reply
 use Rattle.replies.specs.Replies.{reply_bits, reply_length}
 use Rattle.replies.specs.Pack.{packed}
 use Rattle.rights.specs.Rights.{Code}
-use Rattle.rights.specs.declared.Fault.{Fault}
 use Rattle.rights.specs.declared.Fault.TheVariants as fault
 use Rattle.rights.specs.Rights.{fault_number, read_code, write_code, lock_code, perma_read_code, perma_code}
 use Rattle.stores.specs.Stores.{change_stores}
@@ -51,7 +50,7 @@ use Rattle.states.proofs.ByNumber.{gate-in, bare-in, used-in, halved-in, secured
 use Rattle.plans.specs.declared.Plan.{Plan}
 use Rattle.plans.specs.declared.Plan.TheVariants as plan
 use Rattle.plans.specs.Effects.{Effect, drawn_reply, turns, does, half_kill, half_access}
-use Rattle.plans.specs.Steps.{or_error, write_plan, plan_of}
+use Rattle.plans.specs.Steps.{Decided, or_error, write_plan, plan_of}
 use Rattle.tag.specs.declared.Live.{Live}
 use Rattle.tag.specs.declared.Session.{Session}
 use Rattle.tag.specs.Session.{off_session}
@@ -280,7 +279,7 @@ module _ (l : Live) (y : Layout) (m f : List ℕ) (fresh : ℕ) (room : List ℕ
   abbrev handle : ℕ
   handle = (link_of l.state).handle
 
-  abbrev performs : Result Plan Fault → Left Numbers
+  abbrev performs : Decided → Left Numbers
   performs p = decided_at (numbers_on l) handle y m f fresh room s p
 
   abbrev used_now : Session

@@ -1,5 +1,5 @@
 -- What a frame comes to over a session's numbers, as the code goes. Equal to the table's steps by the laws of proofs/ByNumber. Assumes nothing.
-use Rattle.std.specs.Prelude.{Result, Ok, Err, ℕ, ◌+◌, ◌*◌, ◌≤◌, ◌<◌, ◌≡◌, cond, not, ◌&&◌, List, [], ◌∷◌, eqb, ltb}
+use Rattle.std.specs.Prelude.{Ok, Err, ℕ, ◌+◌, ◌*◌, ◌≤◌, ◌<◌, ◌≡◌, cond, not, ◌&&◌, List, [], ◌∷◌, eqb, ltb}
 use Rattle.bits.specs.Words.{Store, store}
 use Rattle.bits.specs.Below.{below}
 use Rattle.image.specs.declared.Layout.{Layout}
@@ -14,13 +14,12 @@ use Rattle.replies.specs.declared.Reply.{Reply}
 use Rattle.replies.specs.declared.Reply.TheVariants as reply
 use Rattle.replies.specs.Replies.{reply_bits, reply_length}
 use Rattle.replies.specs.Pack.{packed}
-use Rattle.rights.specs.declared.Fault.{Fault}
 use Rattle.rights.specs.Rights.{fault_number}
 use Rattle.stores.specs.Steps.{word_from}
 use Rattle.changes.specs.Changes.{Holds, or_to}
 use Rattle.plans.specs.declared.Plan.{Plan}
 use Rattle.plans.specs.declared.Plan.TheVariants as plan
-use Rattle.plans.specs.Steps.{plan_of}
+use Rattle.plans.specs.Steps.{Decided, plan_of}
 use Rattle.states.specs.declared.Numbers.{Numbers}
 use Rattle.states.specs.declared.Record.{Record}
 use Rattle.states.specs.Commands.{bad_choice, bad_up_dn}
@@ -141,7 +140,7 @@ Sound w n (plan.Zeros at k) = Holds w at k n
 Sound w n (plan.Mask at k p) = Holds w at k n × (p ≤ 51) × (k ≤ 16)
 
 -- the same of a plan, or an error in its place
-abbrev pub SoundWhere : ℕ → ℕ → Result Plan Fault → Type 0
+abbrev pub SoundWhere : ℕ → ℕ → Decided → Type 0
 SoundWhere w n (Ok p) = Sound w n p
 SoundWhere w n (Err e) = Unit {0}
 
@@ -160,7 +159,7 @@ perform_at v h y m f fresh room s (plan.Zeros at n) = store_at v h (used_in v) y
 perform_at v h y m f fresh room s (plan.Mask at n p) = store_at v h (used_in v) y.work.at m room s (below (or_to m f at p) n)
 
 -- a plan performed, or the error in its place
-abbrev pub decided_at : Numbers → ℕ → Layout → List ℕ → List ℕ → ℕ → List ℕ → ℕ → Result Plan Fault → Left Numbers
+abbrev pub decided_at : Numbers → ℕ → Layout → List ℕ → List ℕ → ℕ → List ℕ → ℕ → Decided → Left Numbers
 decided_at v h y m f fresh room s (Ok p) = perform_at v h y m f fresh room s p
 decided_at v h y m f fresh room s (Err e) = error_at v h m room (fault_number e)
 

@@ -1,13 +1,12 @@
 -- `tag::acting::command` meets its contract: stopped, or decided and performed. Assumes nothing.
-use mathlib.Core.Path.{sym, ap, ◌∙◌}
+use mathlib.Core.Path.{sym, ap, ◌∙◌, subst}
 use Rattle.image.specs.Layout.{layout_of}
-use Rattle.plans.specs.declared.Plan.{Plan}
-use Rattle.plans.specs.Steps.{plan_of}
+use Rattle.plans.specs.Steps.{Decided, plan_of}
 use Rattle.states.specs.declared.Numbers.{Numbers}
 use Rattle.states.specs.Numbers.{numbers_in}
 use Rattle.states.specs.ByNumber.{gate_in}
 use Rattle.states.specs.Steps.{stop_row}
-use Rattle.tag.specs.ByNumber.{perform_at}
+use Rattle.tag.specs.ByNumber.{decided_at, SoundWhere}
 use Rattle.tag.proofs.Plans.{plan-sound, good-long}
 use Rattle.tag.proofs.Ways.{command-way, stopped-way}
 use Rattle.tag.proofs.acting.command.Goals as goal
@@ -16,13 +15,3 @@ pub returns-in-Err : goal.returns-in-Err
 returns-in-Err c = let a = c.args in let m = a.image.now in let y = layout_of m in let v = numbers_in a.r in
     let g = c.gate.ensures ∙ ap (λ (w : Numbers). gate_in y m w a.c.number a.c.order) c.from-v.ensures in
     c.stopped.ensures _ _ ∙ stopped-way y v m a.room.now a.frame.now a.fresh a.s a.c _ (sym (ap stop_row c.in-Err.is) ∙ g)
-
-pub perform-requires : goal.perform-requires
-perform-requires c = let a = c.args in let m = a.image.now in let y = layout_of m in
-    record { in_bounds = good-long y m c.requires.good; sound = rw c.decide-plan.ensures (plan-sound y m a.frame.now c.requires.good c.from-v.result a.c.order c.requires.placed) }
-
-pub returns : goal.returns
-returns c = let a = c.args in let m = a.image.now in let y = layout_of m in let v = numbers_in a.r in
-    let g = c.gate.ensures ∙ ap (λ (w : Numbers). gate_in y m w a.c.number a.c.order) c.from-v.ensures in
-    let p = c.decide-plan.ensures ∙ ap (λ (w : Numbers). plan_of y m a.frame.now w a.c.order) c.from-v.ensures in
-    c.perform.ensures ∙ ap (λ (p : Plan). perform_at v a.c.number y m a.frame.now a.fresh a.room.now a.s p) p ∙ command-way y v m a.room.now a.frame.now a.fresh a.s a.c (sym (ap stop_row c.in_default.is) ∙ g)

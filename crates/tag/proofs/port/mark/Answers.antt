@@ -17,7 +17,7 @@ pub overflow_sub-writable : goal.overflow_sub-writable
 overflow_sub-writable c =
     elim c.if-at-j.branch [
       | then-at-j w ↦ omega (arith, w.bit-locked.ensures.1)
-      | else-at-j w ↦ omega (arith, c.loop-j.invariant.4.bit)
+      | else-at-j w ↦ omega (arith, c.loop-j.invariant.3.bit)
     ]
 
 pub loop-j-preserved : goal.loop-j-preserved
@@ -26,9 +26,9 @@ loop-j-preserved c =
     let l = c.loop-j in
     let k : (a.at + l.j < c.if-at-j.next) × Known a.y a.image.now (a.at + l.j) c.if-at-j.locked c.if-at-j.next =
     elim c.if-at-j.branch [
-      | then-at-j w ↦ known-new a.y a.image.now (a.at + l.j) (omega arith) (w.locked-is ∙ w.bit-locked.ensures.0 ∙ ap bit_of w.block_locked.ensures) (omega (arith, w.locked-is, w.bit-locked.ensures.1)) (w.next-is ∙ w.next_block-next.ensures.0)
-      | else-at-j w ↦ rw (w.locked-is, w.next-is) (known-old l.invariant.4 w.if-at-j.false)
+      | then-at-j w ↦ known-new a.y a.image.now (a.at + l.j) (omega arith) (w.locked-is ∙ w.bit-locked.ensures.0 ∙ ap bit_of w.locked-own.ensures) (omega (arith, w.locked-is, w.bit-locked.ensures.1)) (w.next-is ∙ w.next_block-next.ensures.0)
+      | else-at-j w ↦ rw (w.locked-is, w.next-is) (known-old l.invariant.3 w.if-at-j.false)
     ] in
     let v = c.if-at-j.locked in
     let e : a.at + l.j + 1 ≡ a.at + (l.j + 1) = omega arith in
-    (omega arith, length-set l.mask l.j v ∙ l.invariant.1, mask_next a.y a.image.now a.at l.mask l.j l.writable v (omega (arith, l.invariant.1)) (k.1.same (a.at + l.j) (omega arith) k.0) l.invariant.2, omega (arith, l.invariant.3), rw e at (known_next k.1 k.0))
+    (length-set l.mask l.j v ∙ l.invariant.0, mask_next a.y a.image.now a.at l.mask l.j l.writable v (omega (arith, l.invariant.0)) (k.1.same (a.at + l.j) (omega arith) k.0) l.invariant.1, omega (arith, l.invariant.2), rw e at (known_next k.1 k.0))
