@@ -33,7 +33,7 @@ impl From<Fault> for u8 {
     }
 }
 
-// The bank with the number b.
+// The bank with the number b, as frames bring it (`bank_of`).
 pub fn bank(y: Layout, b: u16) -> Section
     ensures { result ≡ bank_of y b }
 {
@@ -55,7 +55,7 @@ fn entry_of(b: u16) -> usize
     }
 }
 
-// The bank with the number b, read from the header.
+// The same, read from the header: two words of it, where a layout is fifteen.
 pub fn bank_in(image: &[u8], b: u16) -> Section
     requires { 32 ≤ length image.now }
     ensures { result ≡ bank_of (layout_of image.now) b }
@@ -74,7 +74,7 @@ pub struct Pair {
     pub perma: u16,
 }
 
-// Pair k of a lock word.
+// Pair k of a lock word: 0 kill, 1 access, 2 EPC, 3 TID, 4 USER, by the number that `pair_of` gives.
 pub fn pair_in(lock: u16, k: usize) -> Pair
     requires { k < 2 ^ 32 }
     ensures { (result.pwd ≡ pwd_bit lock k) × (result.pwd < 2) × (result.perma ≡ perma_bit lock k) × (result.perma < 2) }
@@ -182,24 +182,24 @@ impl Blocks<'_> {
         self.first_locked(p, n).is_none()
     }
 
+    // The n words of bank b from word p on, words of EPC, TID or USER, may be written where their pair is open.
+    fn rest_open(&self, b: u16, p: usize, n: usize) -> bool
+        requires { (p < 2 ^ 32) × (0 < n) × (n ≤ 65535) }
+        ensures { result ≡ every (λ j. rest_open self.now.layout self.now.image.now b (p + j)) n }
+    {
+        match b {
+            1 => p != 0,
+            2 => false,
+            3 => self.none_locked(p, n),
+            _ => true,
+        }
+    }
+
     // Some block is permalocked.
     fn some_permalock(&self) -> bool
         ensures { result ≡ some_permalock self.now.layout self.now.image.now }
     {
         (0..image::blocks(self.layout)).any(|b| self.permalock(b) != 0)
-    }
-}
-
-// The n words of bank b from word p on, words of EPC, TID or USER, may be written where their pair is open.
-fn rest_open(image: &[u8], y: Layout, b: u16, p: usize, n: usize) -> bool
-    requires { (p < 2 ^ 32) × (0 < n) × (n ≤ 65535) }
-    ensures { result ≡ every (λ j. rest_open y image.now b (p + j)) n }
-{
-    match b {
-        1 => p != 0,
-        2 => false,
-        3 => Blocks { image, layout: y }.none_locked(p, n),
-        _ => true,
     }
 }
 
@@ -300,7 +300,11 @@ impl Memory<'_> {
         if !opens(secured, lock, b as usize + 1) {
             return false;
         }
-        rest_open(self.image, y, b, p, n)
+        let blocks = Blocks {
+            image: self.image,
+            layout: y,
+        };
+        blocks.rest_open(b, p, n)
     }
 
     // The word before which a Read of bank b with WordCount 0 ends: in EPC L + 2, if its pointer p lies below it; else the bank's end.
