@@ -1,6 +1,6 @@
 -- What each command comes to that the session lets pass (RULES 3.9, 3.12 to 3.15, 3.20 to 3.22 and 11.3 to 11.6), one after the other.
 -- Assumes nothing.
-use Rattle.std.specs.Prelude.{Result, Ok, Err, ℕ, ◌+◌, ◌-◌, ◌*◌, cond, List, [], ◌∷◌, eqb}
+use Rattle.std.specs.Prelude.{Ok, Err, ℕ, ◌+◌, ◌-◌, ◌*◌, cond, List, [], ◌∷◌, eqb}
 use Rattle.std.specs.Int.Bits.{bit_or}
 use Rattle.bits.specs.Words.{word_at, Store, store}
 use Rattle.bits.specs.Bits.{field_at}
@@ -12,9 +12,8 @@ use Rattle.frames.specs.declared.Order.{Order}
 use Rattle.frames.specs.declared.Order.TheVariants as order
 use Rattle.replies.specs.declared.Reply.{Reply}
 use Rattle.replies.specs.declared.Reply.TheVariants as reply
-use Rattle.rights.specs.declared.Fault.{Fault}
 use Rattle.rights.specs.declared.Fault.TheVariants as fault
-use Rattle.rights.specs.Rights.{bank_of, span_words, read_code, write_code, locked_to, lock_code, perma_read_code, perma_code}
+use Rattle.rights.specs.Rights.{Code, bank_of, span_words, read_code, write_code, locked_to, lock_code, perma_read_code, perma_code}
 use Rattle.states.specs.declared.Flags.{Flags}
 use Rattle.states.specs.declared.Half.{Half}
 use Rattle.states.specs.declared.Half.TheVariants as half
@@ -34,7 +33,7 @@ pub record Scene : Type 0 where
 
 -- what it comes to: its error code, if one applies; else flags, state, the reply and the words stored, in rising order
 pub record Effect : Type 0 where
-  pub code : Result Unit Fault
+  pub code : Code
   pub flags : Flags
   pub state : State
   pub reply : Reply
@@ -44,7 +43,7 @@ pub record Effect : Type 0 where
 abbrev pub does : Scene → State → Reply → List Store → Effect
 does c st r ws = record { code = Ok tt; flags = c.flags; state = st; reply = r; words = ws }
 
-abbrev pub unless : Result Unit Fault → Effect → Effect
+abbrev pub unless : Code → Effect → Effect
 unless e x = record { code = e; flags = x.flags; state = x.state; reply = x.reply; words = x.words }
 
 abbrev pub handle_in : Scene → ℕ

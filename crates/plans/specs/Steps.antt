@@ -8,7 +8,7 @@ use Rattle.frames.specs.declared.Order.{Order}
 use Rattle.frames.specs.declared.Order.TheVariants as order
 use Rattle.rights.specs.declared.Fault.{Fault}
 use Rattle.rights.specs.declared.Fault.TheVariants as fault
-use Rattle.rights.specs.Rights.{span_words, read_code, write_code, locked_to, lock_code, perma_read_code, perma_code}
+use Rattle.rights.specs.Rights.{Code, span_words, read_code, write_code, locked_to, lock_code, perma_read_code, perma_code}
 use Rattle.states.specs.declared.Numbers.{Numbers}
 use Rattle.states.specs.Commands.{zero_kill}
 use Rattle.states.specs.ByNumber.{bare_of}
@@ -17,7 +17,7 @@ use Rattle.plans.specs.declared.Plan.{Plan}
 use Rattle.plans.specs.declared.Plan.TheVariants as plan
 
 -- an error code, or the plan
-abbrev pub or_error : Result Unit Fault → Plan → Result Plan Fault
+abbrev pub or_error : Code → Plan → Result Plan Fault
 or_error (Ok u) p = Ok p
 or_error (Err e) p = Err e
 

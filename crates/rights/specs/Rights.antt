@@ -22,6 +22,10 @@ fault_number Other = 0x00
 fault_number PastEnd = 0x03
 fault_number NoRight = 0x04
 
+-- an error, or none
+abbrev pub Code : Type 0
+Code = Result Unit Fault
+
 -- the lock word's pairs: 0 kill, 1 access, 2 EPC, 3 TID, 4 USER from the top, each a pwd bit and a permalock bit
 abbrev pub pwd_bit : ℕ → ℕ → ℕ
 pwd_bit lock k = lock / 2 ^ (9 - 2 * k) % 2
@@ -66,7 +70,7 @@ abbrev pub beyond : Section → Span → Bool
 beyond b s = leb b.words s.pointer || ltb b.words (s.pointer + s.count)
 
 -- 3.20: the first code that applies to a Read
-unfoldable pub read_code : Layout → List ℕ → Bool → Span → Result Unit Fault
+unfoldable pub read_code : Layout → List ℕ → Bool → Span → Code
 read_code y m secured s =
     first
     ((Err PastEnd, beyond (bank_of y s.bank) s)
@@ -79,7 +83,7 @@ abbrev pub bad_pc : Layout → Span → ℕ → Bool
 bad_pc y s pc = eqb s.bank 1 && leb s.pointer 1 && ltb 1 (s.pointer + s.count) && ltb y.epc.words (length_of pc + 2)
 
 -- 3.20: the first code that applies to a Write, BlockWrite or BlockErase; pc is what would stand in EPC word 1
-unfoldable pub write_code : Layout → List ℕ → Bool → Span → ℕ → Result Unit Fault
+unfoldable pub write_code : Layout → List ℕ → Bool → Span → ℕ → Code
 write_code y m secured s pc =
     first
     ((Err PastEnd, beyond (bank_of y s.bank) s)
@@ -104,7 +108,7 @@ some_permalock y m = not (every (λ i. eqb (permalock y m i) 0) (blocks_in y))
 abbrev pub user_open_for_good : ℕ → Bool
 user_open_for_good lock = eqb (pwd_bit lock 4) 0 && eqb (perma_bit lock 4) 1
 
-unfoldable pub lock_code : Layout → List ℕ → ℕ → ℕ → Result Unit Fault
+unfoldable pub lock_code : Layout → List ℕ → ℕ → ℕ → Code
 lock_code y m mask action =
     let new = locked_to (lock_word y m) mask action in
     first
@@ -117,11 +121,11 @@ lock_code y m mask action =
 abbrev pub not_perma : Layout → Span → Bool
 not_perma y s = not (eqb s.bank 3) || ltb y.perma.words (s.pointer + s.count)
 
-unfoldable pub perma_read_code : Layout → Span → Result Unit Fault
+unfoldable pub perma_read_code : Layout → Span → Code
 perma_read_code y s = first ((Err PastEnd, not_perma y s) ∷ []) (Ok tt)
 
 -- the mask stands in the frame f from bit p on; bit k is for block 16 * pointer + k
-unfoldable pub perma_code : Layout → List ℕ → Span → List ℕ → ℕ → Result Unit Fault
+unfoldable pub perma_code : Layout → List ℕ → Span → List ℕ → ℕ → Code
 perma_code y m s f p =
     first
     ((Err PastEnd, not_perma y s)
