@@ -104,7 +104,7 @@ fn reserved_open(secured: bool, lock: u16, p: usize, n: usize) -> bool
     low && high
 }
 
-// The blocks of USER in an image, each with its permalock bit.
+// An image with its layout, for what locks its words: the lock word, and the blocks of USER, each with its permalock bit.
 #[derive(Clone, Copy)]
 pub struct Blocks<'a> {
     pub image: &'a [u8],
@@ -201,6 +201,39 @@ impl Blocks<'_> {
     {
         (0..image::blocks(self.layout)).any(|b| self.permalock(b) != 0)
     }
+
+    // What stands against a Lock.
+    #[tactic(auto, unfolding(crate::specs::Rights::lock_code))]
+    pub fn lock_code(&self, mask: u16, action: u16) -> Result<(), Fault>
+        ensures { result ≡ lock_code self.now.layout self.now.image.now mask action }
+    {
+        let old = bits::word(self.image, self.layout.status.at as usize);
+        let new = locked(old, mask, action);
+        if !pairs_kept(old, new) {
+            return Err(Fault::NoRight);
+        }
+        if mask % 4 != 0 && open_for_good(new) && self.some_permalock() {
+            return Err(Fault::NoRight);
+        }
+        Ok(())
+    }
+
+    // What stands against a BlockPermalock that locks; its mask stands in the frame from bit `from` on.
+    #[tactic(auto, unfolding(crate::specs::Rights::perma_code))]
+    pub fn perma_code(&self, s: Span, frame: &[u8], from: usize) -> Result<(), Fault>
+        requires { from < 2 ^ 61 }
+        ensures { result ≡ perma_code self.now.layout self.now.image.now s frame.now from }
+    {
+        let y = self.layout;
+        let (at, n) = (16 * s.pointer as usize, 16 * s.count as usize);
+        if not_perma(y, s) || !mask_fits(y, at, frame, from, n) {
+            return Err(Fault::PastEnd);
+        }
+        if open_for_good(bits::word(self.image, y.status.at as usize)) {
+            return Err(Fault::NoRight);
+        }
+        Ok(())
+    }
 }
 
 // The span takes the PC, and pc has a length that the bank can't hold.
@@ -226,6 +259,17 @@ fn not_perma(y: Layout, s: Span) -> bool
     ensures { result ≡ not_perma y s }
 {
     s.bank != 3 || (y.perma.words as usize) < s.pointer as usize + s.count as usize
+}
+
+// What stands against a BlockPermalock that reads.
+#[tactic(auto, unfolding(crate::specs::Rights::perma_read_code))]
+pub fn perma_read_code(y: Layout, s: Span) -> Result<(), Fault>
+    ensures { result ≡ perma_read_code y s }
+{
+    if not_perma(y, s) {
+        return Err(Fault::PastEnd);
+    }
+    Ok(())
 }
 
 // The lock word after a Lock: masked bits are the action's.
@@ -365,55 +409,6 @@ impl Memory<'_> {
         }
         if image::pairs(y) < s.count as usize {
             return Err(Fault::Other);
-        }
-        Ok(())
-    }
-
-    // What stands against a Lock.
-    #[tactic(auto, unfolding(crate::specs::Rights::lock_code))]
-    pub fn lock_code(self, mask: u16, action: u16) -> Result<(), Fault>
-        ensures { result ≡ lock_code (layout_of self.entry.image.now) self.entry.image.now mask action }
-    {
-        let y = self.layout();
-        let old = bits::word(self.image, y.status.at as usize);
-        let new = locked(old, mask, action);
-        if !pairs_kept(old, new) {
-            return Err(Fault::NoRight);
-        }
-        let blocks = Blocks {
-            image: self.image,
-            layout: y,
-        };
-        if mask % 4 != 0 && open_for_good(new) && blocks.some_permalock() {
-            return Err(Fault::NoRight);
-        }
-        Ok(())
-    }
-
-    // What stands against a BlockPermalock that reads.
-    #[tactic(auto, unfolding(crate::specs::Rights::perma_read_code))]
-    pub fn perma_read_code(self, s: Span) -> Result<(), Fault>
-        ensures { result ≡ perma_read_code (layout_of self.entry.image.now) s }
-    {
-        if not_perma(self.layout(), s) {
-            return Err(Fault::PastEnd);
-        }
-        Ok(())
-    }
-
-    // What stands against a BlockPermalock that locks; its mask stands in the frame from bit `from` on.
-    #[tactic(auto, unfolding(crate::specs::Rights::perma_code))]
-    pub fn perma_code(self, s: Span, frame: &[u8], from: usize) -> Result<(), Fault>
-        requires { from < 2 ^ 61 }
-        ensures { result ≡ perma_code (layout_of self.entry.image.now) self.entry.image.now s frame.now from }
-    {
-        let y = self.layout();
-        let (at, n) = (16 * s.pointer as usize, 16 * s.count as usize);
-        if not_perma(y, s) || !mask_fits(y, at, frame, from, n) {
-            return Err(Fault::PastEnd);
-        }
-        if open_for_good(bits::word(self.image, y.status.at as usize)) {
-            return Err(Fault::NoRight);
         }
         Ok(())
     }
