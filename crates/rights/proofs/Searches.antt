@@ -3,7 +3,7 @@ use Prim.Native.Nat.{min, ℕ, zero, suc, ◌+◌, ◌-◌, ◌*◌, ◌/◌, �
 use mathlib.Core.Path.{◌≡◌, refl, sym, ap, ap₂, ◌∙◌}
 use mathlib.Core.Bool.{Bool, true, false, cond, not, not-not, ◌&&◌}
 use mathlib.Core.List.{List}
-use native.Mathlib.Nat.{add-zero, add-suc, suc-add, sub-zero, div-zero, div-mul-le_self, lt-div-mul-add, div-eq_of_lt-le, mul-div_cancel}
+use native.Mathlib.Nat.{add-zero, add-suc, suc-add, div-zero, div-mul-le_self, lt-div-mul-add, div-eq_of_lt-le, mul-div_cancel}
 use native.Mathlib.Numerals.{add-one}
 use native.Mathlib.Omega.{arith}
 use native.Mathlib.Decide.{dec_lt}
@@ -38,41 +38,10 @@ pub every-twice : (t : ℕ → Bool) (n : ℕ) → every (λ k. not (not (t k)))
 every-twice t zero = refl
 every-twice t (suc n) = ap₂ ◌&&◌ (every-twice t n) (not-not (t n))
 
--- words in open blocks are passed over
-pub skip-open : (y : Layout) (m : List ℕ) (i n k : ℕ) → ((j : ℕ) → j < k → block_open y m (i + j) ≡ true) → first_locked y m i n ≡ first_locked y m (i + k) (n - k)
-skip-open y m i n zero h = rw (add-zero i, sub-zero n)
-skip-open y m i zero (suc k) h = let z : 0 - suc k ≡ 0 = omega arith in rw z
-skip-open y m i (suc n) (suc k) h =
-    let o : block_open y m i ≡ true = rw (add-zero i) at (h 0 (omega arith)) in
-    let p : i + suc k ≡ i + 1 + k = omega arith in
-    let q : suc n - suc k ≡ n - k = omega arith in
-    rw (p, q, o) (skip-open y m (i + 1) n k (λ j l. (let r : i + 1 + j ≡ i + suc j = omega arith in rw r (h (suc j) (omega arith)))))
-
 -- from word i on, the rest of its block is as open as it
 pub block-alike : (y : Layout) (m : List ℕ) (i k : ℕ) → 0 < y.block → i ≤ k → k < (i / y.block + 1) * y.block → block_open y m k ≡ block_open y m i
 block-alike y m i k w l s =
     ap (λ (x : ℕ). eqb (permalock y m x) 0) (div-eq_of_lt-le {k = i / y.block} y.block {m = k} (omega (arith, div-mul-le_self i y.block)) (omega (arith, s)))
-
--- where word i's block is open, the rest of the block is passed over with it
-pub block-passed : (y : Layout) (m : List ℕ) (i stop : ℕ) → 0 < y.block → block_open y m i ≡ true
-    → first_locked y m i (stop - i) ≡ first_locked y m ((i / y.block + 1) * y.block) (stop - (i / y.block + 1) * y.block)
-block-passed y m i stop w o =
-    let b = i / y.block in
-    let next = (b + 1) * y.block in
-    let e : i + (next - i) ≡ next = omega (arith, lt-div-mul-add {a = i} {b = y.block} w) in
-    let f : stop - i - (next - i) ≡ stop - next = omega (arith, lt-div-mul-add {a = i} {b = y.block} w) in
-    rw (e, f) at
-    (skip-open y m i (stop - i) (next - i)
-    (λ j l. block-alike y m i (i + j) w (omega arith) (omega arith) ∙ o))
-
--- without a block size every word stands in block 0
-pub all-passed : (y : Layout) (m : List ℕ) (i n : ℕ) → y.block ≡ 0 → block_open y m i ≡ true → first_locked y m i n ≡ None
-all-passed y m i n z o =
-    let e : n - n ≡ 0 = omega arith in
-    rw e at (skip-open y m i n n (λ j l. ap (λ (x : ℕ). eqb (permalock y m x) 0) (none (i + j) ∙ sym (none i)) ∙ o))
-  where
-    none : (x : ℕ) → x / y.block ≡ 0
-    none x = rw z (div-zero x)
 
 -- the bit v of word i's block
 pub same_block : (y : Layout) (m : List ℕ) (i : ℕ) {b v : ℕ} → v ≡ permalock y m b → b ≡ i / y.block → block_open y m i ≡ eqb v 0

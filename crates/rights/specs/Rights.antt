@@ -22,6 +22,10 @@ fault_number Other = 0x00
 fault_number PastEnd = 0x03
 fault_number NoRight = 0x04
 
+-- an error, or none
+abbrev pub Code : Type 0
+Code = Result Unit Fault
+
 -- the lock word's pairs: 0 kill, 1 access, 2 EPC, 3 TID, 4 USER from the top, each a pwd bit and a permalock bit
 abbrev pub pwd_bit : ℕ → ℕ → ℕ
 pwd_bit lock k = lock / 2 ^ (9 - 2 * k) % 2
@@ -64,10 +68,6 @@ span_words y m s = cond (eqb s.count 0) (read_end y m s.bank s.pointer - s.point
 -- a pointer at or beyond the end of the bank b, or words past it
 abbrev pub beyond : Section → Span → Bool
 beyond b s = leb b.words s.pointer || ltb b.words (s.pointer + s.count)
-
--- an error code, or none
-abbrev pub Code : Type 0
-Code = Result Unit Fault
 
 -- 3.20: the first code that applies to a Read
 unfoldable pub read_code : Layout → List ℕ → Bool → Span → Code

@@ -33,7 +33,7 @@ impl From<Fault> for u8 {
     }
 }
 
-// The bank with the number b.
+// The bank with the number b, as frames bring it (`bank_of`).
 pub fn bank(y: Layout, b: u16) -> Section
     ensures { result ≡ bank_of y b }
 {
@@ -55,7 +55,7 @@ fn entry_of(b: u16) -> usize
     }
 }
 
-// The bank with the number b, read from the header.
+// The same, read from the header: two words of it, where a layout is fifteen.
 pub fn bank_in(image: &[u8], b: u16) -> Section
     requires { 32 ≤ length image.now }
     ensures { result ≡ bank_of (layout_of image.now) b }
@@ -74,7 +74,7 @@ pub struct Pair {
     pub perma: u16,
 }
 
-// Pair k of a lock word.
+// Pair k of a lock word: 0 kill, 1 access, 2 EPC, 3 TID, 4 USER, by the number that `pair_of` gives.
 pub fn pair_in(lock: u16, k: usize) -> Pair
     requires { k < 2 ^ 32 }
     ensures { (result.pwd ≡ pwd_bit lock k) × (result.pwd < 2) × (result.perma ≡ perma_bit lock k) × (result.perma < 2) }
@@ -104,7 +104,7 @@ fn reserved_open(secured: bool, lock: u16, p: usize, n: usize) -> bool
     low && high
 }
 
-// The blocks of USER in an image, each with its permalock bit.
+// An image with its layout, for what locks its words: the lock word, and the blocks of USER, each with its permalock bit.
 #[derive(Clone, Copy)]
 pub struct Blocks<'a> {
     pub image: &'a [u8],
@@ -182,24 +182,57 @@ impl Blocks<'_> {
         self.first_locked(p, n).is_none()
     }
 
+    // The n words of bank b from word p on, words of EPC, TID or USER, may be written where their pair is open.
+    fn rest_open(&self, b: u16, p: usize, n: usize) -> bool
+        requires { (p < 2 ^ 32) × (0 < n) × (n ≤ 65535) }
+        ensures { result ≡ every (λ j. rest_open self.now.layout self.now.image.now b (p + j)) n }
+    {
+        match b {
+            1 => p != 0,
+            2 => false,
+            3 => self.none_locked(p, n),
+            _ => true,
+        }
+    }
+
     // Some block is permalocked.
     fn some_permalock(&self) -> bool
         ensures { result ≡ some_permalock self.now.layout self.now.image.now }
     {
         (0..self.layout.blocks()).any(|b| self.permalock(b) != 0)
     }
-}
 
-// The n words of bank b from word p on, words of EPC, TID or USER, may be written where their pair is open.
-fn rest_open(image: &[u8], y: Layout, b: u16, p: usize, n: usize) -> bool
-    requires { (p < 2 ^ 32) × (0 < n) × (n ≤ 65535) }
-    ensures { result ≡ every (λ j. rest_open y image.now b (p + j)) n }
-{
-    match b {
-        1 => p != 0,
-        2 => false,
-        3 => Blocks { image, layout: y }.none_locked(p, n),
-        _ => true,
+    // What stands against a Lock.
+    #[tactic(auto, unfolding(crate::specs::Rights::lock_code))]
+    pub fn lock_code(&self, mask: u16, action: u16) -> Result<(), Fault>
+        ensures { result ≡ lock_code self.now.layout self.now.image.now mask action }
+    {
+        let old = bits::word(self.image, self.layout.status.at as usize);
+        let new = locked(old, mask, action);
+        if !pairs_kept(old, new) {
+            return Err(Fault::NoRight);
+        }
+        if mask % 4 != 0 && open_for_good(new) && self.some_permalock() {
+            return Err(Fault::NoRight);
+        }
+        Ok(())
+    }
+
+    // What stands against a BlockPermalock that locks; its mask stands in the frame from bit `from` on.
+    #[tactic(auto, unfolding(crate::specs::Rights::perma_code))]
+    pub fn perma_code(&self, s: Span, frame: &[u8], from: usize) -> Result<(), Fault>
+        requires { from < 2 ^ 61 }
+        ensures { result ≡ perma_code self.now.layout self.now.image.now s frame.now from }
+    {
+        let y = self.layout;
+        let (at, n) = (16 * s.pointer as usize, 16 * s.count as usize);
+        if not_perma(y, s) || !mask_fits(y, at, frame, from, n) {
+            return Err(Fault::PastEnd);
+        }
+        if open_for_good(bits::word(self.image, y.status.at as usize)) {
+            return Err(Fault::NoRight);
+        }
+        Ok(())
     }
 }
 
@@ -226,6 +259,17 @@ fn not_perma(y: Layout, s: Span) -> bool
     ensures { result ≡ not_perma y s }
 {
     s.bank != 3 || (y.perma.words as usize) < s.pointer as usize + s.count as usize
+}
+
+// What stands against a BlockPermalock that reads.
+#[tactic(auto, unfolding(crate::specs::Rights::perma_read_code))]
+pub fn perma_read_code(y: Layout, s: Span) -> Result<(), Fault>
+    ensures { result ≡ perma_read_code y s }
+{
+    if not_perma(y, s) {
+        return Err(Fault::PastEnd);
+    }
+    Ok(())
 }
 
 // The lock word after a Lock: masked bits are the action's.
@@ -300,7 +344,11 @@ impl Memory<'_> {
         if !opens(secured, lock, b as usize + 1) {
             return false;
         }
-        rest_open(self.image, y, b, p, n)
+        let blocks = Blocks {
+            image: self.image,
+            layout: y,
+        };
+        blocks.rest_open(b, p, n)
     }
 
     // The word before which a Read of bank b with WordCount 0 ends: in EPC L + 2, if its pointer p lies below it; else the bank's end.
@@ -361,55 +409,6 @@ impl Memory<'_> {
         }
         if y.pairs() < s.count as usize {
             return Err(Fault::Other);
-        }
-        Ok(())
-    }
-
-    // What stands against a Lock.
-    #[tactic(auto, unfolding(crate::specs::Rights::lock_code))]
-    pub fn lock_code(self, mask: u16, action: u16) -> Result<(), Fault>
-        ensures { result ≡ lock_code (layout_of self.entry.image.now) self.entry.image.now mask action }
-    {
-        let y = self.layout();
-        let old = bits::word(self.image, y.status.at as usize);
-        let new = locked(old, mask, action);
-        if !pairs_kept(old, new) {
-            return Err(Fault::NoRight);
-        }
-        let blocks = Blocks {
-            image: self.image,
-            layout: y,
-        };
-        if mask % 4 != 0 && open_for_good(new) && blocks.some_permalock() {
-            return Err(Fault::NoRight);
-        }
-        Ok(())
-    }
-
-    // What stands against a BlockPermalock that reads.
-    #[tactic(auto, unfolding(crate::specs::Rights::perma_read_code))]
-    pub fn perma_read_code(self, s: Span) -> Result<(), Fault>
-        ensures { result ≡ perma_read_code (layout_of self.entry.image.now) s }
-    {
-        if not_perma(self.layout(), s) {
-            return Err(Fault::PastEnd);
-        }
-        Ok(())
-    }
-
-    // What stands against a BlockPermalock that locks; its mask stands in the frame from bit `from` on.
-    #[tactic(auto, unfolding(crate::specs::Rights::perma_code))]
-    pub fn perma_code(self, s: Span, frame: &[u8], from: usize) -> Result<(), Fault>
-        requires { from < 2 ^ 61 }
-        ensures { result ≡ perma_code (layout_of self.entry.image.now) self.entry.image.now s frame.now from }
-    {
-        let y = self.layout();
-        let (at, n) = (16 * s.pointer as usize, 16 * s.count as usize);
-        if not_perma(y, s) || !mask_fits(y, at, frame, from, n) {
-            return Err(Fault::PastEnd);
-        }
-        if open_for_good(bits::word(self.image, y.status.at as usize)) {
-            return Err(Fault::NoRight);
         }
         Ok(())
     }

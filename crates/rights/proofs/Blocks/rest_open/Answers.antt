@@ -1,11 +1,11 @@
--- `rights::rest_open` meets its contract: bank by bank. Assumes nothing.
+-- `rights::Blocks::rest_open` meets its contract: bank by bank. Assumes nothing.
 use Rattle.std.proofs.Common.{rules}
 use borrow.Author.Tests.{tests}
 use mathlib.Core.Bool.{and-true}
 use mathlib.Core.Path.{sym}
 use Rattle.bits.proofs.Below.{every-all}
 use Rattle.rights.proofs.Spans.{beyond-zero}
-use Rattle.rights.proofs.rest_open.Goals as goal
+use Rattle.rights.proofs.Blocks.rest_open.Goals as goal
 
 pub returns-in-1 : goal.returns-in-1
 returns-in-1 c = rw c.in-1.is (simp and-true (beyond-zero _ _ c.requires.1))
