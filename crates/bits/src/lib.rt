@@ -30,7 +30,7 @@ pub fn lent(bytes: &[u8])
     let _first = bytes.first();
 }
 
-// Word i of bytes that have it.
+// Word i of bytes that have it: a sum, here and for windows, since `from_be_bytes` costs an instruction more where words are compared.
 pub fn word_in(bytes: &[u8], i: usize) -> u16
     requires { 2 * i + 1 < length bytes.now }
     ensures { result ≡ word_at bytes.now i }
@@ -86,7 +86,8 @@ pub fn window(bytes: &[u8], k: usize) -> u32
     ensures { result ≡ window_at bytes.now k }
 {
     if k + 2 < bytes.len() {
-        return (u32::from(bytes[k]) * 256 + u32::from(bytes[k + 1])) * 256 + u32::from(bytes[k + 2]);
+        return (u32::from(bytes[k]) * 256 + u32::from(bytes[k + 1])) * 256
+            + u32::from(bytes[k + 2]);
     }
     (u32::from(byte(bytes, k)) * 256 + u32::from(byte(bytes, k + 1))) * 256
         + u32::from(byte(bytes, k + 2))

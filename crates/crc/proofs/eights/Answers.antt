@@ -1,6 +1,4 @@
 -- `crc::eights` meets its contract. Invariant: the register has seen the first k times eight bytes. Assumes nothing.
-use mathlib.Core.Path.{◌≡◌, refl}
-use native.Mathlib.Omega.{arith}
 use Rattle.crc.proofs.Runs.{eight-more}
 use Rattle.crc.proofs.eights.Goals as goal
 
