@@ -66,16 +66,18 @@ pub in_window : (m : List ℕ) (i n : ℕ) → ((j : ℕ) → get_or m j 0 < 256
 in_window m i n bytes h = through-window m (i / 8) i n (24 - i % 8 - n) bytes (omega arith) (omega arith)
 
 -- the last 16 of the first n bits lie in the last three bytes of these
-pub in-last : (m : List ℕ) (n : ℕ) {v : ℕ} → ((j : ℕ) → get_or m j 0 < 256) → 24 ≤ n → v ≡ (get_or m ((n - 1) / 8 - 2) 0 * 65536 + get_or m ((n - 1) / 8 - 1) 0 * 256) + get_or m ((n - 1) / 8) 0
-    → v / 2 ^ (7 - (n - 1) % 8) % 65536 ≡ field_at m (n - 16) 16
+pub in-last : (m : List ℕ) (n : ℕ) {a b c : ℕ} → ((j : ℕ) → get_or m j 0 < 256) → 24 ≤ n → a ≡ get_or m ((n - 1) / 8 - 2) 0 → b ≡ get_or m ((n - 1) / 8 - 1) 0 → c ≡ get_or m ((n - 1) / 8) 0
+    → ((a * 256 + b) * 256 + c) / 2 ^ (7 - (n - 1) % 8) % 65536 ≡ field_at m (n - 16) 16
 unfolding window_at
-in-last m n {v} bytes h p =
+in-last m n bytes h p q r =
     let k = (n - 1) / 8 in
     let s = 7 - (n - 1) % 8 in
     let e : k - 2 + 1 ≡ k - 1 = omega arith in
     let f : k - 2 + 2 ≡ k = omega arith in
-    let w : v ≡ window_at m (k - 2) = p ∙ (rw (e, f) (omega arith)) in
-    ap (λ (x : ℕ). x / 2 ^ s % 65536) w ∙ sym (through-window m (k - 2) (n - 16) 16 s bytes (omega arith) (omega arith))
+    rw (p, q, r)
+    (sym
+    (through-window m (k - 2) (n - 16) 16 s bytes (omega arith) (omega arith)
+    ∙ ap₂ (λ (x y : ℕ). ((get_or m (k - 2) 0 * 256 + get_or m x 0) * 256 + get_or m y 0) / 2 ^ s % 2 ^ 16) e f))
 
 -- the code's 2 ^ n does not wrap
 pub modulus : (n : ℕ) → n ≤ 16 → 1 * 2 ^ n % 4294967296 ≡ 2 ^ n

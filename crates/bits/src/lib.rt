@@ -30,12 +30,12 @@ pub fn lent(bytes: &[u8])
     let _first = bytes.first();
 }
 
-// Word i of bytes that have it.
+// Word i of bytes that have it: a sum, here and for windows, since `from_be_bytes` costs an instruction more where words are compared.
 pub fn word_in(bytes: &[u8], i: usize) -> u16
     requires { 2 * i + 1 < length bytes.now }
     ensures { result ≡ word_at bytes.now i }
 {
-    u16::from_be_bytes([bytes[2 * i], bytes[2 * i + 1]])
+    u16::from(bytes[2 * i]) * 256 + u16::from(bytes[2 * i + 1])
 }
 
 // Word i; one test does for both bytes where they are there.
@@ -46,7 +46,7 @@ pub fn word(bytes: &[u8], i: usize) -> u16
     if 2 * i + 1 < bytes.len() {
         return word_in(bytes, i);
     }
-    u16::from_be_bytes([byte(bytes, 2 * i), byte(bytes, 2 * i + 1)])
+    u16::from(byte(bytes, 2 * i)) * 256 + u16::from(byte(bytes, 2 * i + 1))
 }
 
 // Stores v as word i of bytes that have it.
@@ -77,7 +77,7 @@ pub fn store_word(bytes: &mut [u8], i: usize, v: u16)
 pub fn bit(bytes: &[u8], i: usize) -> u16
     ensures { (result ≡ bit_at bytes.now i) × (result < 2) }
 {
-    u16::from(byte(bytes, i / 8) >> (7 - i % 8) & 1)
+    u16::from(byte(bytes, i / 8)) >> (7 - i % 8) & 1
 }
 
 // The three bytes from byte k on, as one number.
@@ -86,9 +86,11 @@ pub fn window(bytes: &[u8], k: usize) -> u32
     ensures { result ≡ window_at bytes.now k }
 {
     if k + 2 < bytes.len() {
-        return u32::from_be_bytes([0, bytes[k], bytes[k + 1], bytes[k + 2]]);
+        return (u32::from(bytes[k]) * 256 + u32::from(bytes[k + 1])) * 256
+            + u32::from(bytes[k + 2]);
     }
-    u32::from_be_bytes([0, byte(bytes, k), byte(bytes, k + 1), byte(bytes, k + 2)])
+    (u32::from(byte(bytes, k)) * 256 + u32::from(byte(bytes, k + 1))) * 256
+        + u32::from(byte(bytes, k + 2))
 }
 
 // The eight bytes from byte i on, as one number.
@@ -174,7 +176,7 @@ pub fn last_word(bytes: &[u8], n: usize) -> u16
     ensures { result ≡ field_at bytes.now (n - 16) 16 }
 {
     let k = (n - 1) / 8;
-    let v = u32::from_be_bytes([0, bytes[k - 2], bytes[k - 1], bytes[k]]);
+    let v = (u32::from(bytes[k - 2]) * 256 + u32::from(bytes[k - 1])) * 256 + u32::from(bytes[k]);
     ((v >> (7 - (n - 1) % 8)) % 65536) as u16
 }
 

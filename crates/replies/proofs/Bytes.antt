@@ -6,10 +6,10 @@ use native.Mathlib.Nat.{div-one, pow-suc}
 use native.Mathlib.Numerals.{add-one}
 use native.Mathlib.Omega.{arith}
 use lib.ListN.{length, get_or, take, drop, set, replicate, length-set, length-drop}
-use lib.Seq.{get_or-drop}
+use lib.Seq.{get_or-drop, drop-drop, paste}
 use lib.Pow.{pow-add}
 use Rattle.std.proofs.lemmas.List.{take_more, length-take-le}
-use Rattle.std.proofs.lemmas.List.Edits.{fill_more}
+use Rattle.std.proofs.lemmas.List.Edits.{fill_more, paste_all}
 use borrow.Rule.Slice.PartMut.{put_mid}
 use Rattle.std.specs.Int.{byte_at, bytes_high_first}
 use Rattle.bits.specs.Bits.{words_bits, bits_from}
@@ -61,6 +61,18 @@ put-bytes (suc k) i v room h =
 -- the k bytes of a number, the highest first, copied over a room from byte i on
 pub stored : (k i v : ℕ) (room : List ℕ) {ys : List ℕ} {n : ℕ} → ys ≡ bytes_high_first k v → n ≡ k → i + k ≤ length room → put_mid i n room ys ≡ with_bytes k room i v
 stored k i v room e f h = ap₂ (λ (n : ℕ) (ys : List ℕ). put_mid i n room ys) f e ∙ put-bytes k i v room h
+
+-- the same, copied byte by byte
+length-high : (k v : ℕ) → length (bytes_high_first k v) ≡ k
+length-high zero v = refl
+length-high (suc k) v = ap suc (length-high k v)
+
+pub pasted : (k i v : ℕ) (room : List ℕ) {ys : List ℕ} → ys ≡ bytes_high_first k v → i + k ≤ length room → paste room i ys k ≡ with_bytes k room i v
+pasted k i v room e h =
+    ap (λ (ys : List ℕ). paste room i ys k) e
+    ∙ paste_all room i (bytes_high_first k v) k (sym (length-high k v))
+    ∙ ap (λ (l : List ℕ). take i room ++ (bytes_high_first k v ++ l)) (sym (drop-drop k i room))
+    ∙ put-bytes k i v room h
 
 -- one byte more at a room's front
 front-more : (ys : List ℕ) (y : ℕ) (room : List ℕ) → length ys < length room → set (ys ++ drop (length ys) room) (length ys) y ≡ (ys ++ y ∷ []) ++ drop (suc (length ys)) room

@@ -33,6 +33,17 @@ fn put_end(room: &mut [u8], i: usize, before: u64, register: u16, handle: u16)
     room[i + 4] = (sum % 2) as u8 * 128;
 }
 
+// Stores the eight bytes of v from byte i on. Byte by byte, since the compiler makes one store of it, and more of a copy.
+fn store_eight(room: &mut [u8], i: usize, v: u64)
+    requires { i + 7 < length room.old }
+    ensures { room.new ≡ with_bytes 8 room.old i v }
+{
+    let bytes = v.to_be_bytes();
+    for k in 0..8 {
+        room[i + k] = bytes[k];
+    }
+}
+
 // A 0, words of the image, the handle and the CRC-16.
 pub fn put_words(room: &mut [u8], image: &[u8], from: usize, count: usize, handle: u16)
     requires { (2 * (from + count) ≤ length image.now) × (2 * count + 5 ≤ length room.old) }
@@ -43,7 +54,7 @@ pub fn put_words(room: &mut [u8], image: &[u8], from: usize, count: usize, handl
     for j in 0..count / 4 {
         let w = bits::four_words(image, from + 4 * j);
         let late = before % 2 * 0x8000_0000_0000_0000 + w / 2;
-        room[8 * j..8 * j + 8].copy_from_slice(&late.to_be_bytes());
+        store_eight(room, 8 * j, late);
         register = crc::step64(register, w);
         before = w;
     }

@@ -6,9 +6,6 @@ use lib.Pow.{pow_pos}
 use Rattle.bits.proofs.Windows.{in_window, modulus, modulus-small}
 use Rattle.bits.proofs.field.Goals as goal
 
-pub nonzero_rem-result-2 : goal.nonzero_rem-result-2
-nonzero_rem-result-2 c = rw (modulus c.args.n (omega arith)) (pow_pos c.args.n)
-
 pub overflow_cast-result-3 : goal.overflow_cast-result-3
 overflow_cast-result-3 c = record { fits = modulus-small c.args.n _ (omega arith) }
 

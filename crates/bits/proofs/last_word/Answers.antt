@@ -7,4 +7,4 @@ pub returns : goal.returns
 returns c =
     let a = c.args in
     let known = c.type_inv.bytes in
-    in-last a.bytes.now a.n {v = c.from_be_bytes-v.result} (λ i. omega (arith, known i)) (omega arith) (omega (arith, c.from_be_bytes-v.ensures))
+    in-last a.bytes.now a.n (λ i. omega (arith, known i)) (omega arith) c.from.ensures c.from-2.ensures c.from-3.ensures

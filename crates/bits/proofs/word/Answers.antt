@@ -5,4 +5,4 @@ use Rattle.bits.proofs.word.Goals as goal
 
 pub returns : goal.returns
 unfolding word_at
-returns c = omega (arith, c.from_be_bytes.ensures, c.byte.ensures, c.byte-2.ensures)
+returns c = omega (arith, c.from.ensures, c.from-2.ensures, c.byte.ensures, c.byte-2.ensures)

