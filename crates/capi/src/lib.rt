@@ -199,9 +199,9 @@ pub extern "C" fn depot_make(
     ensures { framed result room.new ≡ make_for (command_of command) payload.now number cover room.old }
 {
     let Some(o) = commands::command_of(command) else {
-        return commands::frame_of(Err(NotMade::Beyond));
+        return Frame::from(Err(NotMade::Beyond));
     };
-    commands::frame_of(depot::make(o, payload, number, cover, room))
+    Frame::from(depot::make(o, payload, number, cover, room))
 }
 
 // Reads n bits as a reply to a command, with the number that it carried.
@@ -216,7 +216,7 @@ pub extern "C" fn depot_read(
     ensures { result ≡ reply_of (read_for (command_of command) payload.now number n reply.now) }
 {
     let Some(o) = commands::command_of(command) else {
-        return commands::reply_of(Err(NotRead::Beyond));
+        return Reply::from(Err(NotRead::Beyond));
     };
-    commands::reply_of(depot::read(o, payload, number, n, reply))
+    Reply::from(depot::read(o, payload, number, n, reply))
 }

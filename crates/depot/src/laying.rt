@@ -7,7 +7,8 @@ ghost use Rattle.depot.specs.Steps.{field, ebv, plain, placed, query_of, select_
 use crate::{Command, Place, Round};
 use fields::Field;
 
-// A frame: three numbers, where it has a pointer that in the middle; so many bits of the payload; a number; and the bits of the check: 0, 5 or 16.
+// A frame: three numbers, where it has a pointer that in the middle; so many bits of the payload; a number; and the check by its bits, which
+// count: 0, 5 or 16.
 #[derive(Clone, Copy, Default)]
 pub struct Layout {
     pub front: Field,

@@ -34,7 +34,8 @@ pub struct Round {
 }
 
 // A command without the number that it carries and without its payload. Words and halves are uncovered. QueryRep has a session, QueryAdjust a session and UpDn, Select target,
-// action, place and length, and its mask for payload. BlockWrite's words and Permalock's masks are payload too.
+// action, place and length, and its mask for payload. BlockWrite's words and Permalock's masks are payload too. Its numbers are as asked for, since making refuses those beyond the
+// limits.
 #[derive(Clone, Copy)]
 pub enum Command {
     QueryRep(u32),

@@ -64,7 +64,7 @@ impl Pen<'_> {
         }
     }
 
-    // The first n bits of the payload.
+    // The first n bits of the payload. A loop of its own: a closure that gives the bits would be no shorter.
     pub fn put_payload(&mut self, payload: &[u8], n: usize)
         requires { (self.old.at + n ≤ 8 * length self.old.room.now) × (self.old.at ≤ 4200) × (n ≤ 4096) }
         ensures same_room { self.new.room.ghost_name ≡ self.old.room.ghost_name }

@@ -2,4 +2,4 @@
 use Rattle.capi.proofs.depot_make.Goals as goal
 
 pub returns-in_default : goal.returns-in_default
-returns-in_default c = rw (← c.in_default.ensures) (c.frame_of.ensures _)
+returns-in_default c = rw (← c.in_default.ensures) (c.from.ensures _)
