@@ -27,11 +27,7 @@ pub enum Call<'a> {
     Ask,
     Release,
     Register,
-    Read {
-        at: usize,
-        count: usize,
-        room: usize,
-    },
+    Read(Read),
     Write {
         at: usize,
         words: Digits<'a>,
@@ -47,6 +43,16 @@ pub struct Frame<'a> {
     pub fresh: u16,
     pub room: usize,
     pub stores: usize,
+    ghost within: { room ≤ 9604 },
+}
+
+// A read through the port, and the room for its words.
+#[derive(Clone, Copy)]
+pub struct Read {
+    pub at: usize,
+    pub count: usize,
+    pub room: usize,
+    ghost within: { room ≤ 9604 },
 }
 
 fn frame_of<'a>(parts: &mut Parts<'a>) -> Option<Frame<'a>> {
@@ -59,15 +65,15 @@ fn frame_of<'a>(parts: &mut Parts<'a>) -> Option<Frame<'a>> {
     })
 }
 
-fn read<'a>(parts: &mut Parts<'a>) -> Option<Call<'a>> {
-    Some(Call::Read {
+fn read_of(parts: &mut Parts<'_>) -> Option<Read> {
+    Some(Read {
         at: parts.size(MOST)?,
         count: parts.size(MOST)?,
         room: parts.size(ROOM)?,
     })
 }
 
-fn write<'a>(parts: &mut Parts<'a>) -> Option<Call<'a>> {
+fn write_of<'a>(parts: &mut Parts<'a>) -> Option<Call<'a>> {
     Some(Call::Write {
         at: parts.size(MOST)?,
         words: parts.hex()?,
@@ -88,8 +94,8 @@ fn call_of<'a>(verb: Verb, parts: &mut Parts<'a>) -> Option<Call<'a>> {
     match verb {
         Verb::Power => Some(Call::Power(parts.size(MOST)?)),
         Verb::Frame => Some(Call::Frame(frame_of(parts)?)),
-        Verb::Read => read(parts),
-        Verb::Write => write(parts),
+        Verb::Read => Some(Call::Read(read_of(parts)?)),
+        Verb::Write => write_of(parts),
         Verb::Ask => Some(Call::Ask),
         Verb::Release => Some(Call::Release),
         Verb::Register => Some(Call::Register),

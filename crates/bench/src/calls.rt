@@ -1,9 +1,8 @@
 // What each line does. A bad line leaves everything as it was.
 ghost use Rattle.std.specs.Prelude.{◌≤◌};
 
-use crate::asking;
 use crate::asking::{Asked, Call, Frame};
-use crate::writing;
+use crate::{asking, writing};
 use lines::output::Out;
 use lines::parts::Digits;
 use lines::{Desk, Fault, output};
@@ -47,15 +46,24 @@ fn written(
     session.write(image, at, &data[..n], stores)
 }
 
-// Each call of the tag.
-fn outcome(session: Session, call: Call<'_>, image: &mut [u8], room: &mut [u8]) -> Outcome {
+// Each call of the tag, on the first bytes of the image's array.
+fn outcome(
+    session: Session,
+    call: Call<'_>,
+    bytes: &mut [u8; 9604],
+    len: usize,
+    room: &mut [u8],
+) -> Outcome
+    requires { len ≤ 9604 }
+{
+    let image = &mut bytes[..len];
     match call {
         Call::Power(stores) => tag::power_up(image, stores),
         Call::Frame(frame) => heard(session, frame, image, room),
         Call::Ask => session.ask(),
         Call::Release => session.release(),
         Call::Register => session.register(),
-        Call::Read { at, count, .. } => session.read(image, at, count, room),
+        Call::Read(read) => session.read(image, read.at, read.count, room),
         Call::Write { at, words, stores } => written(session, at, words, stores, image),
     }
 }
@@ -65,8 +73,8 @@ fn room_of(call: Call<'_>) -> usize
     ensures { result ≤ 9604 }
 {
     match call {
-        Call::Frame(frame) => frame.room.min(9604),
-        Call::Read { room, .. } => room.min(9604),
+        Call::Frame(frame) => frame.room,
+        Call::Read(read) => read.room,
         _ => 0,
     }
 }
@@ -103,12 +111,8 @@ impl Tag {
     fn call<W: Write>(&mut self, call: Call<'_>, out: &mut W) -> io::Result<()> {
         let mut room = [0xaau8; 9604];
         let n = room_of(call);
-        let o = outcome(
-            self.session,
-            call,
-            &mut self.bytes[..self.len],
-            &mut room[..n],
-        );
+        let len = self.len;
+        let o = outcome(self.session, call, &mut self.bytes, len, &mut room[..n]);
         self.session = o.session;
         if let Call::Register = call {
             return writing::reading(out, o);

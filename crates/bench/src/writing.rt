@@ -1,8 +1,7 @@
 // How a call's outcome and the session are written.
 use lines::output;
-use std::fmt;
-use std::io;
 use std::io::Write;
+use std::{fmt, io};
 use tag::{Cover, Flags, Half, Link, Live, Outcome, Power, Register, Round, Session, State};
 
 // A cover number.
@@ -39,7 +38,10 @@ struct LinkText(Link);
 impl fmt::Display for LinkText {
     fn fmt<W: fmt::Write>(&self, f: &mut fmt::Formatter<W>) -> fmt::Result {
         let Link {
-            handle, cover, half, ..
+            handle,
+            cover,
+            half,
+            ..
         } = self.0;
         write!(f, "{handle:04x} {} {}", CoverText(cover), HalfText(half))
     }

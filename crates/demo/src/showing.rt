@@ -1,8 +1,7 @@
 // What is written; each text is as wide as its column.
 use crate::playing;
 use crate::playing::{Cut, Half, Seen, Sent, Unlike};
-use std::fmt;
-use std::io;
+use std::{fmt, io};
 use tag::{Power, Session, State};
 
 // How often the engine saw which entry, in the cuts of a kind.

@@ -62,12 +62,7 @@ fn make<W: Write>(room: usize, a: Asked<'_>, out: &mut W) -> io::Result<()> {
 }
 
 // So many words from a bit on, as far as there are bytes.
-fn words<W: Write>(
-    out: &mut W,
-    count: usize,
-    from: usize,
-    bytes: &[u8; 10000],
-) -> io::Result<()> {
+fn words<W: Write>(out: &mut W, count: usize, from: usize, bytes: &[u8; 10000]) -> io::Result<()> {
     write!(out, "words {count} ")?;
     for at in (from..80000).step_by(16).take(count) {
         let w = bits::field(bytes, at, 16);

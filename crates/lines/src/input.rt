@@ -1,5 +1,5 @@
-// The lines of the standard input, read by way of a chunk of it; nothing is allocated.
-ghost use Rattle.std.specs.Prelude.{◌≤◌};
+// The lines of the standard input, read by way of a chunk of it: the library's BufReader allocates, and no program here does.
+ghost use Rattle.std.specs.Prelude.{◌≤◌, length, IfOk, IfSome};
 
 use crate::Fault;
 use std::io;
@@ -21,7 +21,9 @@ impl Kept {
         self.len = end;
     }
 
-    fn whole(&self) -> Result<&[u8], Fault> {
+    fn whole(&self) -> Result<&[u8], Fault>
+        ensures { IfOk result (λ line. length line.now ≤ 20000) }
+    {
         if self.len > 20000 {
             return Err(Fault::BadLine);
         }
@@ -106,7 +108,9 @@ impl<R: Read> Source<R> {
     }
 
     // The next line, if there is one.
-    pub fn next_line(&mut self) -> io::Result<Option<Result<&[u8], Fault>>> {
+    pub fn next_line(&mut self) -> io::Result<Option<Result<&[u8], Fault>>>
+        ensures { IfOk result (λ next. IfSome next (λ line. IfOk line (λ bytes. length bytes.now ≤ 20000))) }
+    {
         self.line.len = 0;
         if !self.complete()? {
             return Ok(None);

@@ -1,4 +1,4 @@
-// What is written, by way of a buffer of fixed size: nothing is allocated.
+// What is written, by way of a buffer of fixed size: the library's BufWriter allocates, and no program here does.
 ghost use Rattle.std.specs.Prelude.{◌≤◌, ◌<◌};
 
 use std::io;

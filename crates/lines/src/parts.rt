@@ -1,5 +1,5 @@
 // A line's parts, taken one by one: words, numbers and hex.
-ghost use Rattle.std.specs.Prelude.{◌≤◌, ◌<◌, ◌*◌, ◌^◌, length, IfSome};
+ghost use Rattle.std.specs.Prelude.{◌≤◌, ◌<◌, length, IfSome};
 
 // What of a line is not taken yet; nothing behind the last part.
 #[derive(Clone, Copy)]
@@ -77,7 +77,7 @@ impl Digits<'_> {
         self.digits.len() / 2
     }
 
-    // The bytes, as far as there is room, and how many these are.
+    // The bytes, as far as there is room, and how many these are; every digit is one of hex.
     pub fn read(&self, room: &mut [u8]) -> usize
         ensures { result ≤ length room.new }
     {
