@@ -1,5 +1,5 @@
 -- A frame to the session of a record: stopped by the front, or heard; and the same as an outcome. Assumes nothing.
-use Rattle.std.specs.Prelude.{Some}
+use Rattle.std.specs.Prelude.{Some, Ok}
 use Prim.Native.Nat.{ℕ}
 use mathlib.Core.Path.{◌≡◌, refl, sym, ap, ◌∙◌, subst}
 use mathlib.Core.Bool.{true≢false, Bool, true, false, cond}

@@ -41,10 +41,10 @@ use Rattle.tag.specs.Steps.{stays, tells, done_by}
 use Rattle.tag.specs.ByNumber.{store_at, finish_at, Sound, SoundWhere}
 
 -- a row that does not hold, and those after it
-none_row : (b : Bool) (e : Fault) (rest : Code) → cond b (Err e) rest ≡ (Ok tt) → (b ≡ false) × (rest ≡ (Ok tt))
+none_row : (b : Bool) (e : Fault) (rest : Code) → cond b (Err e) rest ≡ Ok tt → (b ≡ false) × (rest ≡ Ok tt)
 none_row true e rest h = absurd (never h)
   where
-    never : Err e ≡ (Ok tt) → ⊥
+    never : ◌≡◌ {A = Code} (Err e) (Ok tt) → ⊥
     never h = let z : ◌≡◌ {A = ℕ} 0 1 = cc in omega arith
 none_row false e rest h = (refl, h)
 

@@ -26,7 +26,7 @@ loop-j-preserved c =
     let l = c.loop-j in
     let k : (a.at + l.j < c.if-at-j.next) × Known a.y a.image.now (a.at + l.j) c.if-at-j.locked c.if-at-j.next =
     elim c.if-at-j.branch [
-      | then-at-j w ↦ known-new a.y a.image.now (a.at + l.j) (omega arith) (w.locked-is ∙ w.bit-locked.ensures.0 ∙ ap bit_of w.locked-own.ensures) (omega (arith, w.locked-is, w.bit-locked.ensures.1)) (w.next-is ∙ w.next_block-next.ensures.0)
+      | then-at-j w ↦ known-new a.y a.image.now (a.at + l.j) (omega arith) (w.locked-is ∙ w.bit-locked.ensures.0 ∙ ap bit_of w.locked.ensures) (omega (arith, w.locked-is, w.bit-locked.ensures.1)) (w.next-is ∙ w.next-next.ensures.0)
       | else-at-j w ↦ rw (w.locked-is, w.next-is) (known-old l.invariant.3 w.if-at-j.false)
     ] in
     let v = c.if-at-j.locked in
