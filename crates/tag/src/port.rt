@@ -162,15 +162,13 @@ fn mark(mask: &mut [u8], image: &[u8], y: Layout, at: usize, n: usize) -> usize
     let mut writable: usize = 0;
     let mut locked: u8 = 0;
     let mut next = at;
-    let mut j: usize = 0;
-    while j < n {
+    for j in 0..n {
         if at + j == next {
             locked = recording::bit(rights::block_locked(image, y, at + j));
             next = rights::next_block(y, at + j);
         }
         mask[j] = locked;
         writable += 1 - locked as usize;
-        j += 1;
     }
     writable
 }
