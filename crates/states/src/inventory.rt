@@ -44,15 +44,14 @@ pub fn flag_after(t: u8, action: u8, matching: bool, b: bool) -> bool
     ensures { result ≡ flag_after t action matching b }
 {
     let one = t == 4;
-    let (hit, miss) = match action {
-        0 => (one, !one),
-        1 => (one, b),
-        2 => (b, !one),
-        3 => (!b, b),
-        4 => (!one, one),
-        5 => (!one, b),
-        6 => (b, one),
-        _ => (b, !b),
-    };
-    if matching { hit } else { miss }
+    match action {
+        0 => if matching { one } else { !one },
+        1 => if matching { one } else { b },
+        2 => if matching { b } else { !one },
+        3 => if matching { !b } else { b },
+        4 => if matching { !one } else { one },
+        5 => if matching { !one } else { b },
+        6 => if matching { b } else { one },
+        _ => if matching { b } else { !b },
+    }
 }

@@ -169,7 +169,7 @@ fn finish(
     done(next, 33, made)
 }
 
-// Four stores in place of one that is handed the plan: a Write takes 820 instructions so, and 854 where the plan is told apart once more.
+// Four stores, and not one that is handed the plan: told apart once more, a plan costs a Write 36 instructions of 818.
 
 // One word stored.
 pub fn store_word(

@@ -228,7 +228,7 @@ fn no_state(v: Numbers) -> bool
     (v.state == 0) | (7 < v.state)
 }
 
-// Port, register, cover or flags past their bits, which are asked of the whole number at once.
+// Port, register, cover or flags past their bits, asked of the whole number at once; | makes no branches, three instructions fewer than ||.
 fn too_large(r: Record) -> bool
     ensures { result ≡ too_large (numbers_in r) }
 {
