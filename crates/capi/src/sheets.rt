@@ -57,10 +57,8 @@ impl From<Layout> for Sheet {
 pub fn sheet(image: &[u8]) -> Sheet
     ensures { result ≡ sheet_of (check_of image.now) }
 {
-    match image::ready(image) {
-        1 => refused(1),
-        2 => refused(2),
-        3 => refused(3),
-        _ => Sheet::from(image::read_layout(image)),
+    match image::check(image) {
+        Ok(y) => Sheet::from(y),
+        Err(refusal) => refused(u8::from(refusal)),
     }
 }

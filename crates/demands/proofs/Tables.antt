@@ -17,9 +17,8 @@ use Rattle.image.specs.Content.{content_good}
 use Rattle.image.specs.Rules.{Header, Good}
 use Rattle.image.proofs.Rules.{header-both}
 use Rattle.image.proofs.Answers.{check-good, good-check}
-use Rattle.image.specs.declared.Fit.{Fit}
-use Rattle.image.specs.declared.Fit.TheVariants as fit
-use Rattle.image.specs.Check.{check_of, Checked, refused, good, meaning}
+use Rattle.image.specs.declared.Refusal.TheVariants as refusal
+use Rattle.image.specs.Check.{Verdict, check_of, Checked, refused, good, meaning}
 use Rattle.replies.specs.declared.Reply.{Reply}
 use Rattle.replies.specs.declared.Reply.TheVariants as reply
 use Rattle.replies.specs.Replies.{reply_bits, reply_length}
@@ -294,16 +293,16 @@ tabled t (read at count room) = read-tabled t.session t.image at count room
 tabled t (write at d s) = write-tabled t.session t.image at d s
 
 -- what the check answered, from its meaning
-fit_of : Checked → Fit
-fit_of (refused n) = cond (eqb n 1) fit.Short (cond (eqb n 2) fit.Header fit.Content)
-fit_of (good y) = fit.Good y
+fit_of : Checked → Verdict
+fit_of (refused n) = Err (cond (eqb n 1) refusal.Short (cond (eqb n 2) refusal.Header refusal.Content))
+fit_of (good y) = Ok y
 
-fit-again : (f : Fit) → fit_of (meaning f) ≡ f
+fit-again : (f : Verdict) → fit_of (meaning f) ≡ f
 unfolding fit_of
-fit-again fit.Short = refl
-fit-again fit.Header = refl
-fit-again fit.Content = refl
-fit-again (fit.Good y) = refl
+fit-again (Err refusal.Short) = refl
+fit-again (Err refusal.Header) = refl
+fit-again (Err refusal.Content) = refl
+fit-again (Ok y) = refl
 
 checks-so : (m : List ℕ) → Checks m
 unfolding check_of

@@ -5,8 +5,7 @@ use Rattle.bits.specs.Words.{Bytes, word_at, Store, after}
 use Rattle.image.specs.declared.Layout.{Layout}
 use Rattle.image.specs.Layout.{layout_of, end, blocks_in, within}
 use Rattle.image.specs.Content.{lock_word, killed_word, permalock}
-use Rattle.image.specs.declared.Fit.{Fit}
-use Rattle.image.specs.Check.{check_of, meaning, refused, good}
+use Rattle.image.specs.Check.{Verdict, check_of, meaning, refused, good}
 use Rattle.image.specs.Rules.{Header, Good}
 use Rattle.replies.specs.declared.Reply.TheVariants as reply
 use Rattle.replies.specs.Replies.{reply_bits}
@@ -126,7 +125,7 @@ Reached None = Unit {0}
 Reached (Some l) = Reachable l.state
 
 pub record Demand1 (A : Program) : Type 0 where
-  pub check : (m : List ℕ) (p q : Fit) → meaning p ≡ check_of m → meaning q ≡ check_of m → p ≡ q
+  pub check : (m : List ℕ) (p q : Verdict) → meaning p ≡ check_of m → meaning q ≡ check_of m → p ≡ q
   pub checks : (m : List ℕ) → Checks m
   pub one : (t : Tag) (c : Call) (p q : Outcome) (m n a b : List ℕ) → Meets A t c p m a → Meets A t c q n b → (p ≡ q) × (m ≡ n) × (a ≡ b)
   pub table : (t : Tag) (c : Call) → Tabled t c (A t c)

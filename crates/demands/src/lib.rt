@@ -7,10 +7,10 @@ ghost use Rattle.image.specs.Check.{meaning, check_of};
 ghost use Rattle.demands.specs.Calls.{tag_of, answer_of, Meets};
 ghost use Rattle.demands.specs.Calls as call;
 
-use image::Fit;
+use image::{Layout, Refusal};
 use tag::{Outcome, Session};
 
-pub fn check(image: &[u8]) -> Fit
+pub fn check(image: &[u8]) -> Result<Layout, Refusal>
     ensures { meaning result ≡ check_of image.now }
 {
     image::check(image)

@@ -18,7 +18,11 @@ refusal_number refusal.Short = 1
 refusal_number refusal.Header = 2
 refusal_number refusal.Content = 3
 
-abbrev pub meaning : Result Layout Refusal → Checked
+-- the check's answer in the code
+abbrev pub Verdict : Type 0
+Verdict = Result Layout Refusal
+
+abbrev pub meaning : Verdict → Checked
 meaning (Ok y) = good y
 meaning (Err r) = refused (refusal_number r)
 
