@@ -16,7 +16,6 @@ use Rattle.states.specs.Commands.{plain_link}
 use Rattle.stores.specs.Stores.{power_stores, change_stores}
 use Rattle.stores.specs.Cuts.{Cut}
 use Rattle.stores.specs.Worked.{worked-bytes}
-use Rattle.states.specs.declared.Half.TheVariants as half
 use Rattle.states.specs.declared.Link.{Link}
 use Rattle.states.specs.declared.State.TheVariants as state
 use Rattle.replies.specs.declared.Reply.TheVariants as reply

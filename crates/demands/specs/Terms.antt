@@ -18,7 +18,6 @@ use Rattle.frames.specs.declared.Round.{Round}
 use Rattle.frames.specs.Frames.{span}
 use Rattle.states.specs.Commands.{kill_word, access_word, plain_link, fallen}
 use Rattle.states.specs.Inventory.{flag_at, with_flag, flag_after}
-use Rattle.states.specs.declared.Half.TheVariants as half
 use Rattle.states.specs.declared.Flags.{Flags}
 use Rattle.states.specs.declared.Link.{Link}
 use Rattle.states.specs.declared.State.{State}

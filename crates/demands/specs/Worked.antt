@@ -15,7 +15,6 @@ use Rattle.rights.specs.Rights.{read_code, write_code}
 use Rattle.stores.specs.Stores.{power_stores, change_stores}
 use Rattle.frames.specs.declared.Round.{Round}
 use Rattle.states.specs.declared.Half.{Half}
-use Rattle.states.specs.declared.Half.TheVariants as half
 use Rattle.states.specs.declared.State.TheVariants as state
 use Rattle.states.specs.Commands.{plain_link}
 use Rattle.tag.specs.declared.Session.{Session}

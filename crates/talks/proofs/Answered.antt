@@ -45,7 +45,7 @@ use Rattle.tag.specs.Result.{Result, lost, first_of}
 use Rattle.tag.specs.Table.{Input, live, state_of, scene, effect, is_error, reply_or, reply_of, fits, turned_to, moved_to, everything, replied, stores_of, frame_of}
 use Rattle.tag.proofs.Plans.{none_or, within-bank}
 use Rattle.rights.proofs.Banks.{read-ends}
-use Rattle.demands.proofs.Rows.{Rows, None, Each, none_first, first-or}
+use Rattle.demands.proofs.Rows.{Rows, None as NoRow, Each, none_first, first-or}
 use Rattle.depot.specs.declared.Place.{Place}
 use Rattle.depot.specs.declared.Command.{Command}
 use Rattle.depot.specs.declared.Command.TheVariants as command
@@ -289,15 +289,15 @@ module _ (c : Call) (into : List ℕ) (h : Hearing) (e : (made c into).number �
       (λ e. silent _ refl refl refl, (λ e. silent _ refl refl refl, (λ e. silent _ refl refl refl, (λ e. silent _ refl refl refl, (λ e. silent _ refl refl refl, (λ e. silent _ refl refl refl, (λ e. silent _ refl refl refl, (λ e. silent _ refl refl refl, (λ e. silent _ refl refl refl, (λ e. silent _ refl refl refl, tt))))))))))
 
   -- where no refusal holds, the image is good and the command is for this tag
-  good-image : None front → Good (layout_of m) m
+  good-image : NoRow front → Good (layout_of m) m
   unfolding frame_of front check_of
   good-image n = check-good m (layout_of m) (simp (n.0, n.1.0, n.1.1.0))
 
-  passes : None front → wrong_by st (carried c.command c.number) (asks_of (order_of c.command (length c.payload) c.number c.cover)) ≡ false
+  passes : NoRow front → wrong_by st (carried c.command c.number) (asks_of (order_of c.command (length c.payload) c.number c.cover)) ≡ false
   unfolding frame_of front
   passes n = rw said at n.1.1.1.1.1.1.1.0
 
-  replies-so : None front → Replies m c.number kind (reply_of i)
+  replies-so : NoRow front → Replies m c.number kind (reply_of i)
   replies-so n = rw said (replies-to (good-image n) c.command limits (passes n))
 
   -- room enough
@@ -308,7 +308,7 @@ module _ (c : Call) (into : List ℕ) (h : Hearing) (e : (made c into).number �
       not-true-false true e = sym e
       not-true-false false e = refl
 
-  ends_so : None front → Leaves ends
+  ends_so : NoRow front → Leaves ends
   unfolding ends
   ends_so n = go (is_error (effect i).code) (fits (reply_of i) i.room) (ltb i.power (length (stores_of change_stores i))) refl
     where
@@ -326,7 +326,7 @@ module _ (c : Call) (into : List ℕ) (h : Hearing) (e : (made c into).number �
   leaves : Leaves (first_of (frame_of change_stores i))
   leaves = rw split (go (first-or Leaves front ends front-silent))
     where
-      go : Leaves (first front ends) ⊎ None front → Leaves (first front ends)
+      go : Leaves (first front ends) ⊎ NoRow front → Leaves (first front ends)
       go (inl x) = x
       go (inr n) = rw (none_first front ends n) (ends_so n)
 
