@@ -17,7 +17,7 @@ use Rattle.image.specs.Content.{lock_word, length_of, pc_word, permalock}
 use Rattle.frames.specs.Frames.{span}
 use Rattle.std.specs.Prelude.{Ok, Err}
 use Rattle.rights.specs.declared.Fault.TheVariants as fault
-use Rattle.rights.specs.Rights.{bank_of, pwd_bit, perma_bit, may_read, may_write, beyond, bad_pc, read_end, span_words, read_code, write_code, locked_to, lock_code, pair_breaks, some_permalock, user_open_for_good, not_perma, perma_read_code, perma_code}
+use Rattle.rights.specs.Rights.{Code, bank_of, pwd_bit, perma_bit, may_read, may_write, beyond, bad_pc, read_end, span_words, read_code, write_code, locked_to, lock_code, pair_breaks, some_permalock, user_open_for_good, not_perma, perma_read_code, perma_code}
 use Rattle.demands.proofs.Rights.{reads-if, reads-not, writes-if, writes-not}
 use Rattle.demands.specs.Facts.{MayRead, MayWrite, Within, Past, Ends, Shows, TakesPc, AllRight, Readable, Writable, Lockable, PermaLockable}
 
@@ -129,7 +129,10 @@ module _ (y : Layout) (m : List ℕ) (mask action : ℕ) where
           ap₂ (λ (t u : Bool). not t && (u && eqb (perma_bit new 4) 1) && some_permalock y m) (ne_eqb (mask % 4) 0 f) (eq-eqb (pwd_bit new 4) 0 e)
           ∙ ap₂ (λ (t u : Bool). t && not u) (eq-eqb (perma_bit new 4) 1 d) (every-not (λ i. eqb (permalock y m i) 0) (blocks_in y) b l (ne_eqb (permalock y m b) 0 g))
 
-      either : (t : Bool) → cond t (Err fault.NoRight) (Err fault.NoRight) ≡ Err fault.NoRight
+      refused : Code
+      refused = Err fault.NoRight
+
+      either : (t : Bool) → cond t refused refused ≡ refused
       either true = refl
       either false = refl
 

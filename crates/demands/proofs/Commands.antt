@@ -277,8 +277,8 @@ module _ (a : Air) (r : Aside) (q : Round) (idle : Idle (layout_of a.image) a.im
   nonzero u v (inr d) = ap (λ (t : Bool). eqb u 0 && t) (ne_eqb v 0 d) ∙ and-false (eqb u 0)
 
   -- a kill password, and a right one
-  no_code : {b : Bool} → b ≡ false → cond b (Err fault.Other) (Ok tt) ≡ (Ok tt)
-  no_code e = ap (λ (t : Bool). cond t (Err fault.Other) (Ok tt)) e
+  no_code : {b : Bool} → b ≡ false → cond {A = Code} b (Err fault.Other) (Ok tt) ≡ Ok tt
+  no_code e = ap (λ (t : Bool). cond {A = Code} t (Err fault.Other) (Ok tt)) e
 
   right : (up low u v : ℕ) → up ≡ u → low ≡ v → ◌≡◌ {A = ℕ} (cond (eqb up u && eqb low v) 0 12) 0
   right up low u v i j = ap (λ (b : Bool). cond b 0 12) (ap₂ ◌&&◌ (eq-eqb up u i) (eq-eqb low v j))

@@ -26,7 +26,7 @@ use Rattle.frames.specs.declared.Span.{Span}
 use Rattle.frames.specs.declared.Order.{Order}
 use Rattle.frames.specs.declared.Order.TheVariants as order
 use Rattle.frames.proofs.Orders.{Small}
-use Rattle.std.specs.Prelude.{Ok, Err}
+use Rattle.std.specs.Prelude.{Ok as Fine}
 use Rattle.rights.proofs.Banks.{bank-end}
 use Rattle.rights.specs.Rights.{bank_of, pwd_bit, perma_bit, may_write, beyond, bad_pc, block_open, locked_to, pair_breaks}
 use Rattle.stores.specs.Cuts.{Change}
@@ -158,7 +158,7 @@ module _ (y : Layout) (m : List ℕ) (g : Good y m) where
 
   -- the words of every order that gets no error code
   pub order-plan : (g : Flags) (st : State) (f : List ℕ) (fresh : ℕ) (o : Order) → Small o
-      → (effect_of (record { layout = y; image = m; flags = g; state = st; frame = f; fresh = fresh }) o).code ≡ (Ok tt)
+      → (effect_of (record { layout = y; image = m; flags = g; state = st; frame = f; fresh = fresh }) o).code ≡ Fine tt
       → Plan y m (effect_of (record { layout = y; image = m; flags = g; state = st; frame = f; fresh = fresh }) o).words
   unfolding locked_to at
   order-plan fl st f fresh (order.QueryRep k) h e = no-plan y m

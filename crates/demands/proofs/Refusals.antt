@@ -624,7 +624,7 @@ module _ (a : Air) (r : Aside) (rd : Round) (idle : Idle (layout_of a.image) a.i
   same_code (order.ReadPermalock rfu s) k e = (refl, refl)
   same_code (order.Permalock rfu s at) k e = (refl, refl)
 
-  never : (e : Fault) → (Ok tt) ≡ Err e → ⊥
+  never : (e : Fault) → ◌≡◌ {A = Code} (Ok tt) (Err e) → ⊥
   never e d = let z : ◌≡◌ {A = ℕ} 0 1 = cc in omega arith
 
   -- 10, where no half waits

@@ -17,7 +17,7 @@ use Rattle.image.specs.Content.{content_good}
 use Rattle.image.specs.Rules.{Header, Good}
 use Rattle.image.proofs.Rules.{header-both}
 use Rattle.image.proofs.Answers.{check-good, good-check}
-use Rattle.image.specs.declared.Refusal.TheVariants as refusal
+use Rattle.image.specs.declared.Refusal.TheVariants as unfit
 use Rattle.image.specs.Check.{Verdict, check_of, Checked, refused, good, meaning}
 use Rattle.replies.specs.declared.Reply.{Reply}
 use Rattle.replies.specs.declared.Reply.TheVariants as reply
@@ -294,14 +294,14 @@ tabled t (write at d s) = write-tabled t.session t.image at d s
 
 -- what the check answered, from its meaning
 fit_of : Checked → Verdict
-fit_of (refused n) = Err (cond (eqb n 1) refusal.Short (cond (eqb n 2) refusal.Header refusal.Content))
+fit_of (refused n) = Err (cond (eqb n 1) unfit.Short (cond (eqb n 2) unfit.Header unfit.Content))
 fit_of (good y) = Ok y
 
 fit-again : (f : Verdict) → fit_of (meaning f) ≡ f
 unfolding fit_of
-fit-again (Err refusal.Short) = refl
-fit-again (Err refusal.Header) = refl
-fit-again (Err refusal.Content) = refl
+fit-again (Err unfit.Short) = refl
+fit-again (Err unfit.Header) = refl
+fit-again (Err unfit.Content) = refl
 fit-again (Ok y) = refl
 
 checks-so : (m : List ℕ) → Checks m
