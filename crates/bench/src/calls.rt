@@ -8,7 +8,7 @@ use lines::parts::Digits;
 use lines::{Desk, Fault, output};
 use std::io;
 use std::io::Write;
-use tag::{Outcome, Power, Session};
+use tag::{Outcome, Session};
 
 // The session, the image, and how many bytes that has.
 #[derive(Drop)]
@@ -83,7 +83,7 @@ impl Tag {
     // No image, and the session Off.
     pub fn new() -> Tag {
         Tag {
-            session: Session { power: Power::Off },
+            session: Session { power: None },
             bytes: [0; 9604],
             len: 0,
         }

@@ -2,31 +2,31 @@
 use lines::output;
 use std::io::Write;
 use std::{fmt, io};
-use tag::{Cover, Flags, Half, Link, Live, Outcome, Power, Register, Round, Session, State};
+use tag::{Flags, Half, Link, Live, Outcome, Register, Round, Session, State};
 
-// A cover number.
+// A cover number, if there is one.
 #[derive(Clone, Copy)]
-struct CoverText(Cover);
+struct CoverText(Option<u16>);
 
 impl fmt::Display for CoverText {
     fn fmt<W: fmt::Write>(&self, f: &mut fmt::Formatter<W>) -> fmt::Result {
         match self.0 {
-            Cover::Nothing => f.write_str("-"),
-            Cover::Number(w) => write!(f, "{w:04x}"),
+            None => f.write_str("-"),
+            Some(w) => write!(f, "{w:04x}"),
         }
     }
 }
 
-// The half of a password that waits.
+// The half of a password that waits, if one does.
 #[derive(Clone, Copy)]
-struct HalfText(Half);
+struct HalfText(Option<Half>);
 
 impl fmt::Display for HalfText {
     fn fmt<W: fmt::Write>(&self, f: &mut fmt::Formatter<W>) -> fmt::Result {
         match self.0 {
-            Half::Nothing => f.write_str("-"),
-            Half::Access(w) => write!(f, "access:{w:04x}"),
-            Half::Kill(w) => write!(f, "kill:{w:04x}"),
+            None => f.write_str("-"),
+            Some(Half::Access(w)) => write!(f, "access:{w:04x}"),
+            Some(Half::Kill(w)) => write!(f, "kill:{w:04x}"),
         }
     }
 }
@@ -142,15 +142,15 @@ struct SessionText(Session);
 impl fmt::Display for SessionText {
     fn fmt<W: fmt::Write>(&self, f: &mut fmt::Formatter<W>) -> fmt::Result {
         match self.0.power {
-            Power::Off => f.write_str("off - - - free 0 - - - -"),
-            Power::On(live) => write!(f, "{}", LiveText(live)),
+            None => f.write_str("off - - - free 0 - - - -"),
+            Some(live) => write!(f, "{}", LiveText(live)),
         }
     }
 }
 
 // A call's answer, stores and reply, with the room afterwards.
 fn call<W: Write>(out: &mut W, o: Outcome, room: &[u8]) -> io::Result<()> {
-    let answer = tag::number(o.answer);
+    let answer = u8::from(o.answer);
     let Outcome { stores, reply, .. } = o;
     write!(out, "answer {answer} stores {stores} reply {reply} ")?;
     output::hex(out, room)
@@ -170,7 +170,7 @@ pub fn outcome<W: Write>(out: &mut W, o: Outcome, room: &[u8]) -> io::Result<()>
 // The line of the register's reading: its value stands there where the answer is 0.
 pub fn reading<W: Write>(out: &mut W, o: Outcome) -> io::Result<()> {
     call(out, o, b"")?;
-    if tag::number(o.answer) == 0 {
+    if u8::from(o.answer) == 0 {
         let value = o.value;
         write!(out, " value {value}")?;
     }

@@ -40,7 +40,7 @@ fn step(
 ) -> Result<Session, Stop> {
     let o = playing::heard(s, session, image, room);
     let sent = s.sent;
-    let answer = tag::number(o.answer);
+    let answer = u8::from(o.answer);
     if answer != 0 {
         return Err(Stop::Unlike(Unlike::Finding { sent, answer }));
     }

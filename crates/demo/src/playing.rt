@@ -187,7 +187,7 @@ pub fn write(k: usize) -> Result<Written, Unlike> {
     let mut image = laid();
     let mut room = [0; 8];
     let o = found(&mut image).frame(&mut image, order, 170, 0, &mut room, k);
-    let answer = tag::number(o.answer);
+    let answer = u8::from(o.answer);
     if answer != expected(k) {
         let step = "the gate's BlockWrite";
         return Err(Unlike::Cut { k, step, answer });
@@ -233,7 +233,7 @@ pub fn looked(k: usize, left: &Image) -> Result<Cut, Unlike> {
     let mut image = *left;
     let mut room = [0; 14];
     let held = powered(&mut image).ask().session;
-    let answer = tag::number(held.read(&image, 0, 7, &mut room).answer);
+    let answer = u8::from(held.read(&image, 0, 7, &mut room).answer);
     if answer != 0 {
         let step = "the engine's read";
         return Err(Unlike::Cut { k, step, answer });

@@ -2,7 +2,7 @@
 use crate::playing;
 use crate::playing::{Cut, Half, Seen, Sent, Unlike};
 use std::{fmt, io};
-use tag::{Power, Session, State};
+use tag::{Session, State};
 
 // How often the engine saw which entry, in the cuts of a kind.
 #[derive(Clone, Copy)]
@@ -106,8 +106,8 @@ struct SessionText(Session);
 impl fmt::Display for SessionText {
     fn fmt<W: fmt::Write>(&self, f: &mut fmt::Formatter<W>) -> fmt::Result {
         match self.0.power {
-            Power::Off => f.write_str("off              -"),
-            Power::On(live) => write!(f, "{}", StateText(live.state)),
+            None => f.write_str("off              -"),
+            Some(live) => write!(f, "{}", StateText(live.state)),
         }
     }
 }

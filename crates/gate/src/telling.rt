@@ -3,7 +3,7 @@ ghost use Rattle.std.specs.Prelude.{◌≤◌, length};
 
 use crate::asking;
 use crate::asking::{Asked, Reply, Said};
-use depot::{Made, Reading};
+use depot::Reading;
 use lines::output::Out;
 use lines::parts::Digits;
 use lines::{Desk, Fault, output};
@@ -42,6 +42,11 @@ fn frame<W: Write>(
     writeln!(out)
 }
 
+// A refusal's number.
+fn refused<W: Write>(out: &mut W, number: usize) -> io::Result<()> {
+    writeln!(out, "refused {number}")
+}
+
 // Makes the frame of a command in a room of so many bytes. Data of 512 bytes is beyond every limit, and so is more; no frame takes more than 521.
 fn make<W: Write>(room: usize, a: Asked<'_>, out: &mut W) -> io::Result<()> {
     let mut data = [0u8; 512];
@@ -55,9 +60,8 @@ fn make<W: Write>(room: usize, a: Asked<'_>, out: &mut W) -> io::Result<()> {
         &mut bytes[..room.min(521)],
     );
     match made {
-        Made::Frame(bits) => frame(out, bits, &bytes[..bits.div_ceil(8).min(521)], a.behind),
-        Made::Beyond => writeln!(out, "refused 9"),
-        Made::NoRoom => writeln!(out, "refused 4"),
+        Ok(bits) => frame(out, bits, &bytes[..bits.div_ceil(8).min(521)], a.behind),
+        Err(refusal) => refused(out, usize::from(refusal)),
     }
 }
 
@@ -85,13 +89,11 @@ fn hear<W: Write>(reply: Reply<'_>, out: &mut W) -> io::Result<()> {
         &bytes[..k],
     );
     match told {
-        Reading::Error(code) => writeln!(out, "error {code:02x}"),
-        Reading::Words { count, at } => words(out, count, at, &bytes),
-        Reading::Number(w) => writeln!(out, "number {w:04x}"),
-        Reading::Done => writeln!(out, "done"),
-        Reading::Beyond => writeln!(out, "refused 9"),
-        Reading::Checksum => writeln!(out, "refused 8"),
-        Reading::Other => writeln!(out, "refused 15"),
+        Ok(Reading::Error(code)) => writeln!(out, "error {code:02x}"),
+        Ok(Reading::Words { count, at }) => words(out, count, at, &bytes),
+        Ok(Reading::Number(w)) => writeln!(out, "number {w:04x}"),
+        Ok(Reading::Done) => writeln!(out, "done"),
+        Err(refusal) => refused(out, usize::from(refusal)),
     }
 }
 

@@ -3,7 +3,7 @@
 
 ghost use Rattle.std.specs.Prelude.{◌≤◌, length, IfOk};
 
-use image::{Fit, Layout, Section};
+use image::{Layout, Section};
 use std::io;
 use std::io::Read;
 
@@ -26,12 +26,12 @@ fn sections(rt: &impl Print, y: Layout) -> io::Result<()> {
 }
 
 fn list(rt: &impl Print, image: &[u8]) -> io::Result<()> {
-    let fit = image::check(image);
-    let Fit::Good(y) = fit else {
-        return println!(rt; "refused {}", image::number(fit));
+    let y = match image::check(image) {
+        Ok(y) => y,
+        Err(refusal) => return println!(rt; "refused {}", u8::from(refusal)),
     };
     sections(rt, y)?;
-    println!(rt; "blocks {}", image::blocks(y))?;
+    println!(rt; "blocks {}", y.blocks())?;
     println!(rt; "pending {}", bits::word(image, y.work.at as usize))
 }
 
