@@ -1,7 +1,7 @@
 // Words, bits and fields of lent bytes, the highest first. Past the end a byte reads 0, and a store there changes nothing.
 #![tactic(auto)]
 
-ghost use Rattle.std.specs.Prelude.{◌≡◌, ◌&&◌, ◌||◌, ◌+◌, ◌-◌, ◌*◌, ◌/◌, ◌^◌, ◌≤◌, ◌<◌, length, get_or, set};
+ghost use Rattle.std.specs.Prelude.{◌≡◌, ◌+◌, ◌-◌, ◌*◌, ◌/◌, ◌^◌, ◌≤◌, ◌<◌, length, get_or, set};
 ghost use Rattle.bits.specs.Words.{Bytes, word_at, with_word};
 ghost use Rattle.bits.specs.Bits.{bit_at, field_at, alike as alike_of};
 ghost use Rattle.bits.specs.Steps.{window_at};
@@ -178,18 +178,4 @@ pub fn last_word(bytes: &[u8], n: usize) -> u16
     let k = (n - 1) / 8;
     let v = (u32::from(bytes[k - 2]) * 256 + u32::from(bytes[k - 1])) * 256 + u32::from(bytes[k]);
     ((v >> (7 - (n - 1) % 8)) % 65536) as u16
-}
-
-// `&&` as a call: a caller then has one path, and one equation for the test.
-pub fn both(a: bool, b: bool) -> bool
-    ensures { result ≡ (a && b) }
-{
-    a && b
-}
-
-// `||` as a call.
-pub fn either(a: bool, b: bool) -> bool
-    ensures { result ≡ (a || b) }
-{
-    a || b
 }

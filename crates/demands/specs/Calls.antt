@@ -6,7 +6,7 @@ use Rattle.image.specs.Layout.{layout_of}
 use Rattle.image.specs.Content.{count_in}
 use Rattle.image.specs.Check.{check_of, good}
 use Rattle.rights.specs.Rights.{Code}
-use Rattle.std.specs.Prelude.{Ok, Err}
+use Rattle.std.specs.Prelude.{Ok}
 use Rattle.stores.specs.Stores.{change_stores, power_stores}
 use Rattle.stores.specs.Cuts.{with_byte}
 use Rattle.states.specs.declared.Flags.{Flags}

@@ -18,7 +18,7 @@ use Rattle.bits.proofs.Words.{length-with, word-with-same, word-with-other}
 use Rattle.bits.proofs.Stores.{Avoids, Fine, Fits, last, after-fine}
 use Rattle.image.specs.declared.Layout.{Layout}
 use Rattle.image.specs.Layout.{end}
-use Rattle.image.specs.Steps.{spare_in, may_stand}
+use Rattle.image.specs.Steps.{spare_in}
 use Rattle.image.proofs.Fits.{Ok}
 use Rattle.stores.specs.Cuts.{Cut, with_byte, cut_after}
 use Rattle.stores.proofs.Sane.{Stays}

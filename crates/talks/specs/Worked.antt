@@ -12,7 +12,6 @@ use Rattle.frames.specs.Frames.{heard_of, checksum_right}
 use Rattle.replies.specs.Replies.{checked}
 use Rattle.replies.specs.Pack.{filled, packed}
 use Rattle.rights.specs.Rights.{read_code, write_code}
-use Rattle.states.specs.declared.Half.TheVariants as half
 use Rattle.states.specs.declared.State.TheVariants as state
 use Rattle.tag.specs.declared.Session.{Session}
 use Rattle.tag.specs.Session.{on, new_flags, clear}

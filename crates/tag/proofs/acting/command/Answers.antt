@@ -9,7 +9,7 @@ use Rattle.states.specs.Steps.{stop_row}
 use lib.ListN.{length}
 use Prim.Native.Nat.{ℕ}
 use Rattle.tag.specs.ByNumber.{decided_at, error_at, SoundWhere}
-use Rattle.tag.proofs.Plans.{plan-sound, good-long}
+use Rattle.tag.proofs.Plans.{plan-sound}
 use Rattle.tag.proofs.Ways.{command-way, stopped-way}
 use Rattle.tag.proofs.acting.command.Goals as goal
 

@@ -9,7 +9,7 @@ use Rattle.frames.proofs.Ones.{said-one}
 use Rattle.states.specs.Numbers.{numbers_in}
 use Rattle.tag.proofs.Tables.{placed}
 use Rattle.tag.proofs.ByNumber.{call-placed}
-use Rattle.tag.proofs.Entry.{heard-refused, heard-calling, heard-command}
+use Rattle.tag.proofs.Entry.{heard-calling, heard-command}
 use Rattle.tag.proofs.radio.hearing.Goals as goal
 
 -- the frame's bytes and bits are those lent
