@@ -4,7 +4,7 @@
 --     shut           what a slice owns is what a view of it owns
 --     spells         a slice that a call returned in the local at l is spelled out there
 --     n-vals, n-owned, n-typed     the machine values of a bank's name, that what it owns is had for nothing, and their type
---     made           a view of the part that `part` gives and the number that `answer` gives
+--     made           a view of a bank's part and of the check's number
 -- Assumes `Logic`.
 use mathlib.Core.Path.{◌≡◌, refl, ap}
 use Prim.Native.Nat.{ℕ, suc, ◌<◌, ◌^◌}

@@ -44,13 +44,13 @@ fn bytes(image: &[u8], s: Section) -> &[u8]
     &image[2 * s.at as usize..2 * s.end()]
 }
 
-// The bank's part of a good image.
-pub fn view_of<'a>(image: &'a [u8], bank: Bank) -> View<'a>
-    ensures { shown result ≡ view_of image.now (bank_number bank) }
+// The bank's part of a good image, by the bank's number.
+fn part<'a>(image: &'a [u8], bank: u16) -> View<'a>
+    ensures { shown result ≡ view_of image.now bank }
 {
     match image::check(image) {
         Ok(y) => View {
-            words: bytes(image, rights::bank(y, number(bank))),
+            words: bytes(image, rights::bank(y, bank)),
             answer: 0,
         },
         Err(refusal) => View {
@@ -60,25 +60,45 @@ pub fn view_of<'a>(image: &'a [u8], bank: Bank) -> View<'a>
     }
 }
 
+// The words of some bytes.
+fn words_in(words: &[u8]) -> usize
+    ensures { result ≡ length words.now / 2 }
+{
+    words.len() / 2
+}
+
+// Word i of some bytes, or none past their end. A refused image's is the check's number.
+fn word_in(words: &[u8], answer: u8, i: u16) -> Result<Option<u16>, u8>
+    ensures { result ≡ word_in (record { number = answer; bytes = words.now }) i }
+{
+    if answer != 0 {
+        return Err(answer);
+    }
+    let i = i as usize;
+    if i < words.len() / 2 {
+        return Ok(Some(bits::word(words, i)));
+    }
+    Ok(None)
+}
+
+pub fn view_of<'a>(image: &'a [u8], bank: Bank) -> View<'a>
+    ensures { shown result ≡ view_of image.now (bank_number bank) }
+{
+    part(image, number(bank))
+}
+
 // The words that a view shows.
 pub fn count<'a>(v: View<'a>) -> usize
     ensures { result ≡ words_shown (shown v.entry) }
 {
-    v.words.len() / 2
+    words_in(v.words)
 }
 
-// Word i of a view, or none past the bank's end. A refused image's is the check's number.
+// Word i of a view.
 pub fn read<'a>(v: View<'a>, i: u16) -> Result<Option<u16>, u8>
     ensures { result ≡ word_in (shown v.entry) i }
 {
-    if v.answer != 0 {
-        return Err(v.answer);
-    }
-    let i = i as usize;
-    if i < v.words.len() / 2 {
-        return Ok(Some(bits::word(v.words, i)));
-    }
-    Ok(None)
+    word_in(v.words, v.answer, i)
 }
 
 // Word i of a bank, through a view of it.

@@ -162,7 +162,7 @@ pub extern "C" fn tag_read(
 {
     let h = records::held(session);
     let dead = session.low % 0x100 == 7;
-    if let Err(answer) = tag::read_words(h, dead, image, at, count, room) {
+    if let Err(answer) = tag::read_held(h, dead, image, at, count, room) {
         return records::told(u8::from(answer), records::own(session, h), 0);
     }
     let after = if dead {

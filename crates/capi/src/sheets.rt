@@ -57,8 +57,8 @@ impl From<Layout> for Sheet {
 pub fn sheet(image: &[u8]) -> Sheet
     ensures { result ≡ sheet_of (check_of image.now) }
 {
-    match image::check(image) {
-        Ok(y) => Sheet::from(y),
+    match image::ready(image) {
+        Ok(_) => Sheet::from(image::read_layout(image)),
         Err(refusal) => refused(u8::from(refusal)),
     }
 }

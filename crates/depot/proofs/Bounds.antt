@@ -110,3 +110,6 @@ within-so (command.BlockWrite p) d e = (placed-so p (and_left (placed p) (whole_
 within-so (command.BlockErase p n) d e = (placed-so p (and_left (placed p) (counted n) e), counted-so n (and_right (placed p) (counted n) e))
 within-so (command.ReadPermalock p n) d e = (placed-so p (and_left (placed p) (counted n) e), counted-so n (and_right (placed p) (counted n) e))
 within-so (command.Permalock p) d e = (placed-so p (and_left (placed p) (whole_words d) e), whole-so d (and_right (placed p) (whole_words d) e))
+
+pub words-within : (p : Place) (d : ℕ) → placed p && whole_words d ≡ true → d < 512
+words-within p d e = (whole-so d (and_right (placed p) (whole_words d) e)).2

@@ -1,5 +1,5 @@
 -- The bits of a frame as the code lays it out are those of its shape. Assumes nothing.
-use Prim.Native.Nat.{ℕ, zero, suc, ◌+◌, ◌*◌, ◌/◌, ◌%◌, ◌^◌}
+use Prim.Native.Nat.{ℕ, zero, suc, ◌+◌, ◌*◌, ◌/◌, ◌%◌, ◌^◌, ◌≤◌}
 use mathlib.Core.Path.{◌≡◌, refl, sym, ap, ap₂, ◌∙◌}
 use mathlib.Core.Bool.{Bool, true, false, cond}
 use mathlib.Core.List.{List, [], ◌∷◌, ◌++◌, append_assoc, append-nil}
@@ -20,9 +20,11 @@ use Rattle.depot.specs.declared.Place.{Place}
 use Rattle.depot.specs.declared.Command.{Command}
 use Rattle.depot.specs.declared.Command.TheVariants as command
 use Rattle.depot.specs.declared.laying.Layout.{Layout}
+use Rattle.depot.specs.Limits.{within}
 use Rattle.depot.specs.Making.{Field, fields, shortest, sealed, pointing, shape_of, frame_bits}
 use Rattle.fields.specs.Steps.{field_bits, seal_bits}
-use Rattle.depot.specs.Steps.{field, ebv, layout_of, total_of, open_bits}
+use Rattle.depot.specs.Steps.{field, ebv, layout_of, Narrow, total_of, open_bits}
+use Rattle.depot.proofs.Bounds.{Within, within-so}
 use Rattle.fields.proofs.Behind.{length_from}
 
 -- a number's low bits are those of its rest
@@ -224,6 +226,37 @@ pub frame-length : (c : Command) (m : List ℕ) (n k : ℕ) → length (frame_bi
 frame-length c m n k =
     let l = layout_of c (length m) n k in
     ap length (frame-laid c m n k) ∙ length-sealed c (length m) n k (open_bits l m) ∙ length-open l m
+
+-- its sums are small
+ebv-bits : (p : ℕ) → (ebv p).bits ≤ 24
+ebv-bits p = go (ltb p 128) (ltb p 16384)
+  where
+    go : (a b : Bool)
+        → (cond a (field (p % 128) 8) (cond b (field ((128 + p / 128 % 128) * 256 + p % 128) 16) (field ((128 + p / 16384 % 128) * 65536 + ((128 + p / 128 % 128) * 256 + p % 128)) 24))).bits ≤ 24
+    go true b = omega arith
+    go false true = omega arith
+    go false false = omega arith
+
+pub narrow : (c : Command) (d n k : ℕ) → within c d ≡ true → Narrow (layout_of c d n k)
+narrow c d n k e = go c (within-so c d e)
+  where
+    go : (c : Command) → Within c d → Narrow (layout_of c d n k)
+    go (command.QueryRep s) h = (omega arith, omega arith, omega arith, omega arith, omega arith, omega arith, λ e. absurd (omega (arith, e)))
+    go command.Ack h = (omega arith, omega arith, omega arith, omega arith, omega arith, omega arith, λ e. absurd (omega (arith, e)))
+    go (command.Query r) h = (omega arith, omega arith, omega arith, omega arith, omega arith, omega arith, λ e. omega arith)
+    go (command.QueryAdjust s u) h = (omega arith, omega arith, omega arith, omega arith, omega arith, omega arith, λ e. absurd (omega (arith, e)))
+    go (command.Select t a p l) h = (omega arith, ebv-bits p.pointer, omega arith, omega (arith, h.4), omega arith, omega arith, λ e. absurd (omega (arith, e)))
+    go command.Nak h = (omega arith, omega arith, omega arith, omega arith, omega arith, omega arith, λ e. absurd (omega (arith, e)))
+    go command.ReqRn h = (omega arith, omega arith, omega arith, omega arith, omega arith, omega arith, λ e. absurd (omega (arith, e)))
+    go (command.Read p w) h = (omega arith, ebv-bits p.pointer, omega arith, omega arith, omega arith, omega arith, λ e. absurd (omega (arith, e)))
+    go (command.Write p w) h = (omega arith, ebv-bits p.pointer, omega arith, omega arith, omega arith, omega arith, λ e. absurd (omega (arith, e)))
+    go (command.Kill w) h = (omega arith, omega arith, omega arith, omega arith, omega arith, omega arith, λ e. absurd (omega (arith, e)))
+    go (command.Lock m a) h = (omega arith, omega arith, omega arith, omega arith, omega arith, omega arith, λ e. absurd (omega (arith, e)))
+    go (command.Access w) h = (omega arith, omega arith, omega arith, omega arith, omega arith, omega arith, λ e. absurd (omega (arith, e)))
+    go (command.BlockWrite p) h = (omega arith, ebv-bits p.pointer, omega arith, omega (arith, h.1.2), omega arith, omega arith, λ e. absurd (omega (arith, e)))
+    go (command.BlockErase p w) h = (omega arith, ebv-bits p.pointer, omega arith, omega arith, omega arith, omega arith, λ e. absurd (omega (arith, e)))
+    go (command.ReadPermalock p w) h = (omega arith, ebv-bits p.pointer, omega arith, omega arith, omega arith, omega arith, λ e. absurd (omega (arith, e)))
+    go (command.Permalock p) h = (omega arith, ebv-bits p.pointer, omega arith, omega (arith, h.1.2), omega arith, omega arith, λ e. absurd (omega (arith, e)))
 
 bits-from : (m : List ℕ) (i n : ℕ) → Bits (bits_from m i n)
 bits-from m i zero = tt

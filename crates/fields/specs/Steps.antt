@@ -19,6 +19,10 @@ seal_bits k bs = cond (eqb k 16) (checked bs) (cond (eqb k 5) (bs ++ bits_of 5 (
 abbrev pub check_of : ℕ → List ℕ → Option ℕ
 check_of k bs = cond (eqb k 16) (Some (crc_of bs)) (cond (eqb k 5) (Some (crc5_of (take 17 bs))) None)
 
+-- how many bits a check of so many puts: none where there is no check of that size
+abbrev pub check_bits : ℕ → ℕ
+check_bits k = cond (eqb k 16) 16 (cond (eqb k 5) 5 0)
+
 -- one byte with a bit behind its first k
 abbrev pub with_bit : ℕ → ℕ → ℕ → ℕ
 with_bit old k b = (old / 2 ^ (8 - k) * 2 + b) * 2 ^ (7 - k)

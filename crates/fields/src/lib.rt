@@ -5,7 +5,7 @@ ghost use Rattle.std.specs.Prelude.{ℕ, Some, None, ◌+◌, ◌-◌, ◌*◌, 
 ghost use Rattle.bits.specs.Bits.{bits_from, bits_of};
 ghost use Rattle.bits.proofs.Digits.{Bits};
 ghost use Rattle.replies.specs.Pack.{packed};
-ghost use Rattle.fields.specs.Steps.{field_bits, check_of, seal_bits, with_bit, Goes};
+ghost use Rattle.fields.specs.Steps.{field_bits, check_of, check_bits, seal_bits, with_bit, Goes};
 
 // A number and how many of its low bits count.
 #[derive(Clone, Copy, Default)]
@@ -93,6 +93,8 @@ impl Pen<'_> {
     pub fn put_check(&mut self, bits: usize)
         requires { (self.old.at + bits ≤ 8 * length self.old.room.now) × (self.old.at ≤ 4200) × (bits ≡ 5 → 17 ≤ self.old.at) }
         ensures same_room { self.new.room.ghost_name ≡ self.old.room.ghost_name }
+        ensures same_length { length self.new.room.now ≡ length self.old.room.now }
+        ensures moved { self.new.at ≡ self.old.at + check_bits bits }
         ensures sealed { (xs first : List ℕ) → length xs ≡ self.old.at → Bits xs → self.old.room.now ≡ packed xs first → self.new.room.now ≡ packed (seal_bits bits xs) first }
     {
         if let Some(sum) = self.check(bits) {

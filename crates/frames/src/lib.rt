@@ -2,7 +2,7 @@
 #![tactic(auto)]
 
 ghost use Rattle.std.specs.Prelude.{◌≡◌, ◌+◌, ◌*◌, ◌/◌, ◌%◌, ◌^◌, ◌≤◌, ◌<◌, [], ◌∷◌, not, eqb, length, Ok, Err};
-ghost use Rattle.std.specs.Option.{MatchOption};
+ghost use Rattle.std.specs.Option.{IsSome, MatchOption};
 ghost use Rattle.bits.specs.Words.{Bytes};
 ghost use Rattle.bits.specs.Bits.{field_at};
 ghost use Rattle.bits.specs.First.{first};
@@ -105,7 +105,8 @@ fn part(x: u32, unit: u32, most: u32) -> u8
 impl<'a> Frame<'a> {
     // The frame of n bits in some bytes. None is malformed.
     pub fn of(bytes: &'a [u8], n: usize) -> Option<Frame<'a>>
-        ensures { MatchOption result (heard_of bytes.now n ≡ refused 7) (λ f. (f.bytes.now ≡ bytes.now) × (f.bits ≡ n)) }
+        ensures says { MatchOption result (heard_of bytes.now n ≡ refused 7) (λ f. (f.bytes.now ≡ bytes.now) × (f.bits ≡ n)) }
+        ensures whole { (4 ≤ n) × (n ≤ 8 * length bytes.now) → IsSome result }
     {
         if n < 4 || bytes.len() <= (n - 1) / 8 {
             return None;

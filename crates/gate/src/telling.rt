@@ -70,7 +70,7 @@ fn words<W: Write>(out: &mut W, count: usize, from: usize, bytes: &[u8; 10000]) 
     write!(out, "words {count} ")?;
     for at in (from..80000).step_by(16).take(count) {
         let w = bits::field(bytes, at, 16);
-        write!(out, "{w:04x}")?;
+        output::hex(out, &w.to_be_bytes())?;
     }
     writeln!(out)
 }

@@ -10,40 +10,36 @@ ghost use Rattle.stores.specs.Stores.{change_stores};
 
 use tag::{Outcome, Session};
 
-// The new session goes to the caller's record.
-fn keep(session: &mut Session, o: Outcome) -> Outcome
-    ensures { (result ≡ o) × (session.new ≡ o.session) }
-{
-    *session = o.session;
-    o
-}
-
 pub fn power_up(session: &mut Session, image: &mut [u8], s: usize) -> Outcome
     ensures { (result_of result image.new [] ≡ first_of (power_up_of image.old s)) × (session.new ≡ result.session) }
 {
     let o = tag::power_up(image, s);
-    keep(session, o)
+    *session = o.session;
+    o
 }
 
 pub fn ask(session: &mut Session) -> Outcome
     ensures { (result_of result [] [] ≡ first_of (ask_of session.old)) × (session.new ≡ result.session) }
 {
     let o = (*session).ask();
-    keep(session, o)
+    *session = o.session;
+    o
 }
 
 pub fn release(session: &mut Session) -> Outcome
     ensures { (result_of result [] [] ≡ first_of (release_of session.old)) × (session.new ≡ result.session) }
 {
     let o = (*session).release();
-    keep(session, o)
+    *session = o.session;
+    o
 }
 
 pub fn register(session: &mut Session) -> Outcome
     ensures { (result_of result [] [] ≡ first_of (register_of session.old)) × (session.new ≡ result.session) }
 {
     let o = (*session).register();
-    keep(session, o)
+    *session = o.session;
+    o
 }
 
 pub fn read(
@@ -56,14 +52,16 @@ pub fn read(
     ensures { (result_of result image.now room.new ≡ first_of (read_of session.old image.now at count room.old)) × (session.new ≡ result.session) }
 {
     let o = (*session).read(image, at, count, room);
-    keep(session, o)
+    *session = o.session;
+    o
 }
 
 pub fn write(session: &mut Session, image: &mut [u8], at: usize, words: &[u8], s: usize) -> Outcome
     ensures { (result_of result image.new [] ≡ first_of (write_of change_stores session.old image.old at words.now s)) × (session.new ≡ result.session) }
 {
     let o = (*session).write(image, at, words, s);
-    keep(session, o)
+    *session = o.session;
+    o
 }
 
 pub fn frame(
@@ -78,5 +76,6 @@ pub fn frame(
     ensures { (result_of result image.new room.new ≡ first_of (frame_of change_stores (record { session = session.old; image = image.old; frame = frame.now; bits = n; fresh = fresh; room = room.old; power = s }))) × (session.new ≡ result.session) }
 {
     let o = (*session).frame(image, frame, n, fresh, room, s);
-    keep(session, o)
+    *session = o.session;
+    o
 }

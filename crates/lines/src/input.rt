@@ -31,28 +31,36 @@ impl Kept {
     }
 }
 
-// The reader, what of its chunk is not taken yet, whether its end is reached, and the line.
-#[derive(Drop)]
-pub struct Source<R: Read> {
-    reader: R,
-    chunk: [u8; 65536],
+// What of the chunk is not taken yet, and whether the input's end is reached.
+#[derive(Clone, Copy)]
+pub struct Source {
     at: usize,
     end: usize,
     ended: bool,
-    line: Kept,
     ghost rest: { at ≤ end },
     ghost within: { end ≤ 65536 },
 }
 
-impl<R: Read> Source<R> {
+// The reader, its chunk, where the reading stands in it, and the line.
+#[derive(Drop)]
+pub struct Lines<R: Read> {
+    reader: R,
+    chunk: [u8; 65536],
+    source: Source,
+    line: Kept,
+}
+
+impl<R: Read> Lines<R> {
     // Nothing is read yet.
-    pub fn new(reader: R) -> Source<R> {
-        Source {
+    pub fn new(reader: R) -> Lines<R> {
+        Lines {
             reader,
             chunk: [0; 65536],
-            at: 0,
-            end: 0,
-            ended: false,
+            source: Source {
+                at: 0,
+                end: 0,
+                ended: false,
+            },
             line: Kept {
                 bytes: [0; 20000],
                 len: 0,
@@ -62,23 +70,22 @@ impl<R: Read> Source<R> {
 
     // Takes the chunk's bytes to the line's end, or the chunk's: whether the line ends there.
     fn taken(&mut self) -> bool {
-        let Source {
+        let Lines {
             chunk,
-            at,
-            end,
+            source,
             line,
             ..
         } = self;
-        let rest = &chunk[*at..*end];
+        let rest = &chunk[source.at..source.end];
         match rest.iter().position(|c| *c == b'\n') {
             Some(n) => {
                 line.add(&rest[..n]);
-                *at += n + 1;
+                source.at += n + 1;
                 true
             }
             None => {
                 line.add(rest);
-                *at = *end;
+                source.at = source.end;
                 false
             }
         }
@@ -87,9 +94,11 @@ impl<R: Read> Source<R> {
     // Reads once; nothing more is the end.
     fn fill(&mut self) -> io::Result<()> {
         let n = self.reader.read(&mut self.chunk)?;
-        self.at = 0;
-        self.end = n;
-        self.ended = n == 0;
+        self.source = Source {
+            at: 0,
+            end: n,
+            ended: n == 0,
+        };
         Ok(())
     }
 
@@ -99,7 +108,7 @@ impl<R: Read> Source<R> {
             if self.taken() {
                 return Ok(true);
             }
-            if self.ended {
+            if self.source.ended {
                 return Ok(self.line.len > 0);
             }
             self.fill()?;

@@ -6,7 +6,7 @@ pub mod output;
 pub mod parts;
 pub mod verbs;
 
-use input::Source;
+use input::Lines;
 use output::Out;
 use std::io;
 use std::io::Write;
@@ -54,10 +54,10 @@ fn answered<D: Desk, P: Print>(
 
 // Answers the standard input's lines. What is answered before a read fails is written all the same.
 pub fn run<R: Print + Input, D: Desk>(rt: &R, desk: &mut D) -> io::Result<()> {
-    let mut source = Source::new(rt.reader());
+    let mut lines = Lines::new(rt.reader());
     let mut out = Out::new(rt);
     for number in 1..=u64::MAX {
-        match source.next_line() {
+        match lines.next_line() {
             Ok(Some(line)) => answered(desk, number, line, &mut out)?,
             Ok(None) => break,
             Err(e) => {

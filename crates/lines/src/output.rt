@@ -21,6 +21,21 @@ impl<'a, P: Print> Out<'a, P> {
             len: 0,
         }
     }
+
+    // Writes what there is no room for, piece by piece: each takes a byte at least.
+    #[cold]
+    #[inline(never)]
+    fn spill(&mut self, words: &[u8]) -> io::Result<()> {
+        let mut rest = words;
+        for _ in words {
+            if rest.is_empty() {
+                break;
+            }
+            let n = self.write(rest)?;
+            rest = &rest[n..];
+        }
+        Ok(())
+    }
 }
 
 impl<P: Print> Write for Out<'_, P> {
@@ -34,6 +49,18 @@ impl<P: Print> Write for Out<'_, P> {
         self.bytes[self.len..end].copy_from_slice(&words[..n]);
         self.len = end;
         Ok(n)
+    }
+
+    // A piece for which there is room is put at once.
+    #[inline(always)]
+    fn write_all(&mut self, words: &[u8]) -> io::Result<()> {
+        let end = self.len + words.len();
+        if end > 65536 {
+            return self.spill(words);
+        }
+        self.bytes[self.len..end].copy_from_slice(words);
+        self.len = end;
+        Ok(())
     }
 
     fn flush(&mut self) -> io::Result<()> {
@@ -54,8 +81,13 @@ pub fn hex<W: Write>(out: &mut W, bytes: &[u8]) -> io::Result<()> {
     if bytes.is_empty() {
         return out.write_all(b"-");
     }
-    for c in bytes {
-        out.write_all(&[digit(c / 16), digit(c % 16)])?;
+    for chunk in bytes.chunks(64) {
+        let mut digits = [0; 128];
+        for (two, c) in digits.chunks_exact_mut(2).zip(chunk) {
+            two[0] = digit(c / 16);
+            two[1] = digit(c % 16);
+        }
+        out.write_all(&digits[..2 * chunk.len().min(64)])?;
     }
     Ok(())
 }

@@ -12,6 +12,7 @@ use Rattle.std.proofs.lemmas.List.{take_more, length-take-le}
 use Rattle.std.proofs.lemmas.List.Edits.{fill_more, paste_all}
 use borrow.Rule.Slice.PartMut.{put_mid}
 use Rattle.std.specs.Int.{byte_at, bytes_high_first}
+use Rattle.bits.specs.Words.{with_word}
 use Rattle.bits.specs.Bits.{words_bits, bits_from}
 use Rattle.bits.proofs.Bits.{words-bits}
 use Rattle.replies.specs.Pack.{packed}
@@ -61,6 +62,14 @@ put-bytes (suc k) i v room h =
 -- the k bytes of a number, the highest first, copied over a room from byte i on
 pub stored : (k i v : ℕ) (room : List ℕ) {ys : List ℕ} {n : ℕ} → ys ≡ bytes_high_first k v → n ≡ k → i + k ≤ length room → put_mid i n room ys ≡ with_bytes k room i v
 stored k i v room e f h = ap₂ (λ (n : ℕ) (ys : List ℕ). put_mid i n room ys) f e ∙ put-bytes k i v room h
+
+-- a word stored as two bytes
+pub word-bytes : (room : List ℕ) (j w : ℕ) → w < 65536 → with_word room j w ≡ with_bytes 2 room (2 * j) w
+unfolding with_word with_bytes
+word-bytes room j w h =
+    let z : 2 * j + 0 ≡ 2 * j = omega arith in
+    let high : w / 256 % 256 ≡ w / 256 = omega arith in
+    rw (z, high)
 
 -- the same, copied byte by byte
 length-high : (k v : ℕ) → length (bytes_high_first k v) ≡ k

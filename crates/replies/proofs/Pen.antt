@@ -115,6 +115,19 @@ behind bits first i k v l e = ap (λ (r : List ℕ). with_bytes k r i v) e ∙ s
 pub alone : (n : ℕ) (room : List ℕ) → with_bytes 2 room 0 n ≡ packed (bits_of 16 n) room
 alone n room = behind [] room 0 2 n refl (sym (packed_none room))
 
+-- words of an image behind j of them: one, and four
+module _ (m : List ℕ) (from j : ℕ) (first : List ℕ) {room : List ℕ} (e : room ≡ packed (words_bits m from j) first) where
+  more : (k n w : ℕ) → words_bits m from (j + n) ≡ words_bits m from j ++ bits_of (8 * k) w → with_bytes k room (2 * j) w ≡ packed (words_bits m from (j + n)) first
+  more k n w f =
+      behind (words_bits m from j) first (2 * j) k w (length-words m from j ∙ omega arith) e ∙ ap (λ (bs : List ℕ). packed bs first) (sym f)
+
+  pub word-behind : {w : ℕ} → w ≡ word_at m (from + j) → with_bytes 2 room (2 * j) w ≡ packed (words_bits m from (j + 1)) first
+  unfolding words_bits
+  word-behind {w = w} h = more 2 1 w (rw (add-one j, h))
+
+  pub four-behind : ((i : ℕ) → get_or m i 0 < 256) → {w : ℕ} → w ≡ field_at m (16 * (from + j)) 64 → with_bytes 8 room (2 * j) w ≡ packed (words_bits m from (j + 4)) first
+  four-behind known {w = w} h = more 8 4 w (rw h (words-four m known from j))
+
 -- words of an image, and the CRC-16 of the bits that then stand in the room
 pub summed : (m : List ℕ) (from count : ℕ) (first : List ℕ) {room : List ℕ} → 2 * count ≤ length first → room ≡ packed (words_bits m from count) first
     → with_bytes 2 room (2 * count) (crc_of (bits_from room 0 (16 * count))) ≡ packed (checked (words_bits m from count)) first

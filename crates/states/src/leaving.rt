@@ -8,8 +8,22 @@ use crate::{Numbers, access_word};
 use frames::Choice;
 use image::Layout;
 
+// A state without a cover, in a round; port and register stay.
+pub fn bare(v: Numbers, state: u8, flags: u8, round: u8, q: u8, number: u16, slot: u16) -> Numbers
+    ensures { result ≡ bare_to v state flags round q number slot }
+{
+    Numbers {
+        flags,
+        round,
+        q,
+        number,
+        slot,
+        ..emptied(v, state)
+    }
+}
+
 // A state without a number, a cover or a slot; round, flags, port and register stay.
-pub fn bare(v: Numbers, state: u8) -> Numbers
+pub fn emptied(v: Numbers, state: u8) -> Numbers
     ensures { result ≡ bare_to v state v.flags v.round v.q 0 0 }
 {
     Numbers {
@@ -52,7 +66,7 @@ pub fn fallen(v: Numbers) -> Numbers
 {
     Numbers {
         slot: v.slot,
-        ..bare(v, 2)
+        ..emptied(v, 2)
     }
 }
 
@@ -70,7 +84,7 @@ pub fn numbered(image: &[u8], y: Layout, fresh: u16, v: Numbers) -> Numbers
     let zero = access_word(image, y, 0) == 0 && access_word(image, y, 1) == 0;
     Numbers {
         number: fresh,
-        ..bare(v, if zero { 6 } else { 5 })
+        ..emptied(v, if zero { 6 } else { 5 })
     }
 }
 
@@ -90,7 +104,7 @@ pub fn killed(v: Numbers) -> Numbers
     Numbers {
         round: 0,
         q: 0,
-        ..bare(v, 7)
+        ..emptied(v, 7)
     }
 }
 
@@ -101,7 +115,7 @@ pub fn acknowledged(v: Numbers) -> Numbers
     if v.state == 3 {
         return Numbers {
             number: v.number,
-            ..bare(v, 4)
+            ..emptied(v, 4)
         };
     }
     used(v)
@@ -115,7 +129,7 @@ pub fn idle(v: Numbers, flags: u8) -> Numbers
         flags,
         round: 0,
         q: 0,
-        ..bare(v, 1)
+        ..emptied(v, 1)
     }
 }
 

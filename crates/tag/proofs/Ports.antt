@@ -160,6 +160,16 @@ module _ (h : ℕ) (m : List ℕ) (at count n : ℕ) where
   unfolding front_row
   ready-front z = (row_zero (ready_row m) h refl z).0
 
+-- the front of a good image is the session's own, and of any other the image's
+module _ (h : ℕ) (m : List ℕ) where
+  pub front-own : ready_row m ≡ 0 → front_row h m ≡ h
+  unfolding front_row
+  front-own z = let t : eqb (ready_row m) 0 ≡ true = eq-eqb (ready_row m) 0 z in rw t
+
+  pub front-image : (ready_row m ≡ 0 → ⊥) → front_row h m ≡ ready_row m
+  unfolding front_row
+  front-image z = let t : eqb (ready_row m) 0 ≡ false = ne_eqb (ready_row m) 0 z in rw t
+
 module _ (killed : Bool) (m : List ℕ) (at count : ℕ) (room : List ℕ) where
   pub room-kept : {r : ℕ} → (r ≡ 0 → ⊥) → room ≡ read_room r killed m at count room
   unfolding read_room

@@ -1,7 +1,7 @@
 -- The ways through a command's steps, by what its tests say. Assumes nothing.
 use Prim.Native.Nat.{ℕ, ◌+◌}
 use mathlib.Core.Path.{◌≡◌, sym, ap, ◌∙◌}
-use mathlib.Core.Bool.{Bool, cond, not}
+use mathlib.Core.Bool.{Bool, cond, not, ◌&&◌}
 use mathlib.Core.List.{List}
 use lib.Dec.{eqb}
 use Rattle.image.specs.declared.Layout.{Layout}
@@ -13,15 +13,43 @@ use Rattle.plans.specs.Steps.{plan_of}
 use Rattle.states.specs.declared.Numbers.{Numbers}
 use Rattle.states.specs.declared.stopping.Stop.{Stop}
 use Rattle.states.specs.declared.stopping.Stop.TheVariants as stop
-use Rattle.states.specs.Commands.{bad_choice}
-use Rattle.states.specs.Inventory.{selects}
+use Rattle.states.specs.Commands.{bad_choice, bad_up_dn}
+use Rattle.states.specs.Inventory.{adjusted_q, counted_down, selects}
 use Rattle.states.specs.Steps.{stop_number}
-use Rattle.states.specs.ByNumber.{past, fallen_in, acknowledged_in, idle_in, queried_in, matches_in, slot_out, selected_in, gate_in}
+use Rattle.states.specs.ByNumber.{past, fallen_in, acknowledged_in, idle_in, left_in, queried_in, matches_in, slot_out, selected_in, gate_in}
 use Rattle.tag.specs.Result.{Left}
 use Rattle.tag.specs.Steps.{stays}
-use Rattle.tag.specs.ByNumber.{done_at, dropped_at, tell_at, drawn_at, query_at, ack_at, select_at, decided_at, gated_at, command_at}
+use Rattle.tag.specs.ByNumber.{done_at, dropped_at, tell_at, drawn_at, rep_at, adjust_at, query_at, ack_at, select_at, decided_at, gated_at, command_at}
 
 module _ (v : Numbers) (fresh : ℕ) (m room : List ℕ) where
+  pub rep-way : (k : ℕ) (a b : Bool) → (past v 1 && eqb v.round k) ≡ a → past v 3 ≡ b
+      → cond (not a) (stays 9 v m room)
+      (cond b (done_at (left_in v) 0 0 m room) (drawn_at v v.flags v.round v.q (counted_down v.slot) fresh m room))
+      ≡ rep_at v k fresh m room
+  unfolding rep_at
+  rep-way k a b e g = sym (ap (λ (x : Bool). by x (past v 3)) e ∙ ap (by a) g)
+    where
+      by : Bool → Bool → Left Numbers
+      by x y =
+          cond (not x) (stays 9 v m room)
+          (cond y (done_at (left_in v) 0 0 m room) (drawn_at v v.flags v.round v.q (counted_down v.slot) fresh m room))
+
+  pub adjust-way : (k u : ℕ) (a d b : Bool) → (past v 1 && eqb v.round k) ≡ a → bad_up_dn u ≡ d → past v 3 ≡ b
+      → cond (not a) (stays 9 v m room)
+      (cond d (stays 9 v m room)
+      (cond b (done_at (left_in v) 0 0 m room)
+      (drawn_at v v.flags v.round (adjusted_q u v.q) (slot_out (adjusted_q u v.q) fresh) fresh m room)))
+      ≡ adjust_at v k u fresh m room
+  unfolding adjust_at
+  adjust-way k u a d b e h g = sym (ap (λ (x : Bool). by x (bad_up_dn u) (past v 3)) e ∙ ap (λ (x : Bool). by a x (past v 3)) h ∙ ap (by a d) g)
+    where
+      by : Bool → Bool → Bool → Left Numbers
+      by x z y =
+          cond (not x) (stays 9 v m room)
+          (cond z (stays 9 v m room)
+          (cond y (done_at (left_in v) 0 0 m room)
+          (drawn_at v v.flags v.round (adjusted_q u v.q) (slot_out (adjusted_q u v.q) fresh) fresh m room)))
+
   pub query-way : (sel t k q : ℕ) (a b : Bool) → eqb v.state 7 ≡ a → matches_in (queried_in v k) sel t k ≡ b
       → cond a (stays 9 v m room)
       (cond (not b) (done_at (idle_in v (queried_in v k)) 0 0 m room) (drawn_at v (queried_in v k) k q (slot_out q fresh) fresh m room))

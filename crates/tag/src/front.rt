@@ -1,10 +1,11 @@
 // The first answers of a call with an image, 1, 2, 3, 5 and 6 (RULES 5).
 ghost use Rattle.std.specs.Prelude.{◌≡◌};
-ghost use Rattle.image.specs.Steps.{ready_row};
+ghost use Rattle.image.specs.Steps.{ready_number, ready_row};
 ghost use Rattle.tag.specs.Session.{number_of, row_in, Stops, ready_in, Rejects};
 ghost use Rattle.tag.specs.Steps.{held_row, front_by, front_row};
 
 use crate::{Answer, Session};
+use image::Refusal;
 
 // Whether an image has pending words, or the check's answer.
 pub fn checked(image: &[u8]) -> Result<bool, Answer>
@@ -13,23 +14,30 @@ pub fn checked(image: &[u8]) -> Result<bool, Answer>
     Ok(image::ready(image)?)
 }
 
+// The answer of what the check says: a refusal, or that words are pending.
+pub fn stop(ready: Result<bool, Refusal>) -> Result<(), Answer>
+    ensures { (row_in result ≡ ready_number ready) × Stops result }
+{
+    match ready {
+        Ok(false) => Ok(()),
+        Ok(true) => Err(Answer::NotReady),
+        Err(refusal) => Err(Answer::from(refusal)),
+    }
+}
+
 // The answer of an image that is no good, or has pending words.
 pub fn ready(image: &[u8]) -> Result<(), Answer>
     ensures { (row_in result ≡ ready_row image.now) × Stops result }
 {
-    if checked(image)? {
-        return Err(Answer::NotReady);
-    }
-    Ok(())
+    stop(image::ready(image))
 }
 
 // The answer of an Off session: the image's, or 5.
 pub fn or_five(ready: Result<(), Answer>) -> Answer
-    requires { Stops ready }
     ensures { number_of result ≡ front_by 5 (row_in ready) }
 {
     match ready {
-        Ok(()) => Answer::NotReady,
+        Ok(()) | Err(Answer::Done) => Answer::NotReady,
         Err(answer) => answer,
     }
 }

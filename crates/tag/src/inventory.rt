@@ -30,7 +30,7 @@ fn drawn(
             round,
             q,
             slot,
-            ..leaving::bare(v, 2)
+            ..leaving::emptied(v, 2)
         };
         return noting::done(next, 0, 0);
     }
@@ -39,7 +39,7 @@ fn drawn(
         round,
         q,
         number: fresh,
-        ..leaving::bare(v, 3)
+        ..leaving::emptied(v, 3)
     };
     noting::give_drawn(r, next, fresh, image, room)
 }

@@ -19,7 +19,7 @@ mod starting;
 use frames::Flaw;
 pub use frames::Round;
 use image::Refusal;
-pub use port::read_words;
+pub use port::{read_held, read_words};
 pub use radio::frame;
 pub use recording::{fits, off_record, record_of, session_of};
 pub use starting::power_up;

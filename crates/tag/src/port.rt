@@ -2,6 +2,7 @@
 ghost use Rattle.std.specs.Prelude.{◌≡◌, false, true, [], ℕ, ◌*◌, ◌≤◌, ◌<◌, length, get_or};
 ghost use Rattle.image.specs.Layout.{layout_of};
 ghost use Rattle.image.specs.Rules.{Good};
+ghost use Rattle.image.specs.Steps.{ready_row};
 ghost use Rattle.replies.specs.Pack.{packed};
 ghost use Rattle.stores.specs.Stores.{change_stores};
 ghost use Rattle.tag.specs.Table.{live_of};
@@ -64,8 +65,12 @@ fn with_unwritten(l: Live, b: bool) -> Session
 fn bad_count(y: Layout, at: usize, count: usize) -> bool
     ensures { result ≡ bad_count y at count }
 {
+    // Two tests of the count that end it: what follows then knows that there is a word, and the copying asks for none.
+    if count == 0 || 255 < count {
+        return true;
+    }
     let words = y.user.words as usize;
-    count == 0 || 255 < count || words < at || words < at + count
+    words < at || words < at + count
 }
 
 // Odd data, a bad count, or more words than WORK has pairs.
@@ -126,8 +131,24 @@ fn show(dead: bool, image: &[u8], at: usize, count: usize, room: &mut [u8])
     replies::put_plain(room, image, user + at, count);
 }
 
+// A read past the front.
+fn transfer(
+    dead: bool,
+    image: &[u8],
+    at: usize,
+    count: usize,
+    room: &mut [u8],
+) -> Result<(), Answer>
+    requires { ready_row image.now ≡ 0 }
+    ensures { (row_in result ≡ end_row (layout_of image.now) at count (length room.old)) × (room.new ≡ read_room (row_in result) dead image.now at count room.old) × Stops result }
+{
+    read_end(image, at, count, room.len())?;
+    show(dead, image, at, count, room);
+    Ok(())
+}
+
 // A read of USER, of a session whose own answer is h; words in the room where nothing stops it.
-pub fn read_words(
+pub fn read_held(
     h: Result<(), Answer>,
     dead: bool,
     image: &[u8],
@@ -138,9 +159,23 @@ pub fn read_words(
     ensures { Stops h → (row_in result ≡ read_row (row_in h) image.now at count (length room.old)) × (room.new ≡ read_room (row_in result) dead image.now at count room.old) × Stops result }
 {
     front::front(h, image)?;
-    read_end(image, at, count, room.len())?;
-    show(dead, image, at, count, room);
-    Ok(())
+    transfer(dead, image, at, count, room)
+}
+
+// The same by number, for any h: the number of the answer; words in the room where it is 0.
+pub fn read_words(h: u8, dead: bool, image: &[u8], at: usize, count: usize, room: &mut [u8]) -> u8
+    ensures { (result ≡ read_row h image.now at count (length room.old)) × (room.new ≡ read_room result dead image.now at count room.old) }
+{
+    if let Err(answer) = front::ready(image) {
+        return u8::from(answer);
+    }
+    if h != 0 {
+        return h;
+    }
+    match transfer(dead, image, at, count, room) {
+        Ok(()) => 0,
+        Err(answer) => u8::from(answer),
+    }
 }
 
 // No access password and no USER pwd bit: the port may write words of open blocks.
@@ -271,7 +306,7 @@ impl Session {
         ensures { result_of result image.now room.new ≡ first_of (read_of self image.now at count room.old) }
     {
         let dead = is_dead(self);
-        if let Err(answer) = read_words(front::held(self), dead, image, at, count, room) {
+        if let Err(answer) = read_held(front::held(self), dead, image, at, count, room) {
             return answering::unmoved(self, answer);
         }
         let session = if dead { after_killed(self) } else { self };

@@ -54,10 +54,12 @@ pub fn frame(
 ) -> Noted
     ensures { noted result image.new room.new ≡ in_numbers (first_of (frame_of change_stores (record { session = session_of (numbers_in r); image = image.old; frame = frame.now; bits = n; fresh = fresh; room = room.old; power = s }))) }
 {
+    // The image first: then nothing of the record is kept over its check. What it comes to is asked where it is needed.
+    let ready = image::ready(image);
     if !recording::fits(r) {
-        return noting::refused(recording::off_record(), front::or_five(front::ready(image)));
+        return noting::refused(recording::off_record(), front::or_five(front::stop(ready)));
     }
-    if let Err(answer) = front::ready(image) {
+    if let Err(answer) = front::stop(ready) {
         return noting::refused(r, answer);
     }
     if Numbers::from(r).held != 0 {

@@ -20,7 +20,7 @@ use Rattle.capi.proofs.tag_read.Goals as goal
 
 pub returns-in-Err : goal.returns-in-Err
 returns-in-Err c = let a = c.args in let m = a.image.now in
-    let w = c.read_words.ensures c.held-h.ensures.1 in
+    let w = c.read_held.ensures c.held-h.ensures.1 in
     let e = ap row_in c.in-Err.is in
     let z = subst Stops c.in-Err.is w.2 in
     let n = number_of c.in-Err.answer in
@@ -29,12 +29,12 @@ returns-in-Err c = let a = c.args in let m = a.image.now in
 
 pub overflow_mul-count : goal.overflow_mul-count
 overflow_mul-count c = let a = c.args in let m = a.image.now in
-    let w = c.read_words.ensures c.held-h.ensures.1 in
+    let w = c.read_held.ensures c.held-h.ensures.1 in
     record { fits = omega (arith, fits_count (layout_of m) a.at a.count (read-counts m a.at a.count a.room.now (session_of (numbers_in a.session)) c.held-h.ensures.0 w.0 (ap row_in c.in_default.is))) }
 
 pub returns : goal.returns
 returns c = let a = c.args in let m = a.image.now in
-    let w = c.read_words.ensures c.held-h.ensures.1 in
+    let w = c.read_held.ensures c.held-h.ensures.1 in
     let o = ap row_in c.in_default.is in
     let z = row-port _ m a.at a.count (length a.room.now) (sym w.0 ∙ o) in
     let d = eqb (numbers_in a.session).state 7 in

@@ -10,5 +10,5 @@ pub returns : goal.returns
 returns c =
     let a = c.args in
     let two : 2 * a.count + 2 - 2 * a.count ≡ 2 = omega arith in
-    rw (stored 2 (2 * a.count) _ c.put_plain.new.room (c.copy_from_slice.ensures.after ∙ c.to_be_bytes.ensures) two (omega (arith, c.put_plain.auto.room)), c.crc16_words-sum.ensures)
-    (summed a.image.now a.from a.count a.room.now (omega arith) c.put_plain.ensures)
+    rw (stored 2 (2 * a.count) _ c.put_few.new.room (c.copy_from_slice.ensures.after ∙ c.to_be_bytes.ensures) two (omega (arith, c.put_few.auto.room)), c.crc16_words-sum.ensures)
+    (summed a.image.now a.from a.count a.room.now (omega arith) c.put_few.ensures)

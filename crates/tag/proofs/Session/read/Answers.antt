@@ -13,7 +13,7 @@ use Rattle.tag.proofs.Session.read.Goals as goal
 
 pub returns-in-Err : goal.returns-in-Err
 returns-in-Err c = let a = c.args in let m = a.image.now in
-    let w = c.read_words.ensures c.held.ensures.1 in
+    let w = c.read_held.ensures c.held.ensures.1 in
     let e = ap row_in c.in-Err.is in
     let z = subst Stops c.in-Err.is w.2 in
     let n = number_of c.in-Err.answer in
@@ -21,12 +21,12 @@ returns-in-Err c = let a = c.args in let m = a.image.now in
 
 pub overflow_mul-count : goal.overflow_mul-count
 overflow_mul-count c = let a = c.args in let m = a.image.now in
-    let w = c.read_words.ensures c.held.ensures.1 in
+    let w = c.read_held.ensures c.held.ensures.1 in
     record { fits = omega (arith, fits_count (layout_of m) a.at a.count (read-counts m a.at a.count a.room.now a.self c.held.ensures.0 w.0 (ap row_in c.in_default.is))) }
 
 pub returns : goal.returns
 returns c = let a = c.args in let m = a.image.now in
-    let w = c.read_words.ensures c.held.ensures.1 in
+    let w = c.read_held.ensures c.held.ensures.1 in
     let z = ap row_in c.in_default.is in
     elim c.if-dead.branch [
       | then-dead v ↦ rw (c.done.ensures, v.session-is, v.after_killed-session.ensures, w.1, room-shown c.is_dead-dead.result m a.at a.count a.room.now z) (read_killed m a.at a.count a.room.now a.self c.held.ensures.0 w.0 z _ c.is_dead-dead.ensures v.if-dead.true)

@@ -1,40 +1,40 @@
--- `tag::port::read_words` meets its contract: the front, then 13 and 4, then the words. Assumes nothing.
-use mathlib.Core.Path.{◌≡◌, refl, sym, ap, ◌∙◌}
-use native.Mathlib.Omega.{arith}
+-- `tag::port::read_words` meets its contract: the image's number, the session's, then the transfer's. Assumes nothing.
+use Prim.Native.Nat.{ℕ}
+use mathlib.Core.Path.{◌≡◌, sym, ap, ◌∙◌}
 use lib.ListN.{length}
-use Rattle.std.proofs.Common.{rules}
-use Rattle.image.specs.Layout.{layout_of}
-use Rattle.image.proofs.Answers.{ready-zero, row-0}
 use Rattle.tag.specs.Session.{row_in}
+use Rattle.tag.specs.PortSteps.{read_room}
 use Rattle.tag.proofs.Fronts.{err-stops}
-use Rattle.tag.proofs.Ports.{row-front, row-end, ready-front, room-kept, room-shown, end-zero}
+use Rattle.tag.proofs.Ports.{row-front, row-end, front-own, front-image, room-kept}
 use Rattle.tag.proofs.port.read_words.Goals as goal
 
-pub returns-in_err-front : goal.returns-in_err-front
-returns-in_err-front c = λ s. let a = c.args in let m = a.image.now in
-    let q : c.from_residual.result ≡ c.front.result = search rules in
-    let z = err-stops c.in_err-front.was (c.front.ensures.1 s) in
-    rw q (row-front (row_in a.h) m a.at a.count (length a.room.now) c.front.ensures.0 z, room-kept a.dead m a.at a.count a.room.now z, c.front.ensures.1 s)
+pub returns-in-Err : goal.returns-in-Err
+returns-in-Err c = let a = c.args in let m = a.image.now in
+    let z = err-stops c.in-Err.is c.ready.ensures.1 in
+    let e : c.from.result ≡ row_in c.ready.result = c.from.ensures ∙ sym (ap row_in c.in-Err.is) in
+    let f = e ∙ c.ready.ensures.0 ∙ sym (front-image a.h m (λ k. z (c.ready.ensures.0 ∙ k))) in
+    (row-front a.h m a.at a.count (length a.room.now) f (λ k. z (sym e ∙ k)), room-kept a.dead m a.at a.count a.room.now (λ k. z (sym e ∙ k)))
 
-pub read_end-requires : goal.read_end-requires
-read_end-requires c = let a = c.args in let m = a.image.now in
-    let f = sym c.front.ensures.0 ∙ ap row_in c.in_ok-front.was in
-    let h = (row-0 m (ready-zero m (ready-front (row_in a.h) m a.at a.count (length a.room.now) f)).0).header in omega arith
+pub returns-then-h-ne0 : goal.returns-then-h-ne0
+returns-then-h-ne0 c = let a = c.args in let m = a.image.now in
+    let z = sym c.ready.ensures.0 ∙ ap row_in c.in_default.is in
+    (row-front a.h m a.at a.count (length a.room.now) (sym (front-own a.h m z)) c.if-h-ne0.true, room-kept a.dead m a.at a.count a.room.now c.if-h-ne0.true)
 
-pub returns-in_err-read_end : goal.returns-in_err-read_end
-returns-in_err-read_end c = λ s. let a = c.args in let m = a.image.now in
-    let q : c.from_residual-in_err-read_end.result ≡ c.read_end.result = search rules in
-    let f = sym c.front.ensures.0 ∙ ap row_in c.in_ok-front.was in
-    let z = err-stops c.in_err-read_end.was c.read_end.ensures.1 in
-    rw q (c.read_end.ensures.0 ∙ row-end (row_in a.h) m a.at a.count (length a.room.now) f, room-kept a.dead m a.at a.count a.room.now z, c.read_end.ensures.1)
+pub transfer-requires : goal.transfer-requires
+transfer-requires c = sym c.ready.ensures.0 ∙ ap row_in c.in_default.is
 
-pub show-requires : goal.show-requires
-show-requires c = let a = c.args in let m = a.image.now in
-    let f = sym c.front.ensures.0 ∙ ap row_in c.in_ok-front.was in
-    let e = end-zero (layout_of m) a.at a.count (length a.room.now) (sym c.read_end.ensures.0 ∙ ap row_in c.in_ok-read_end.was) in
-    record { good = row-0 m (ready-zero m (ready-front (row_in a.h) m a.at a.count (length a.room.now) f)).0; count_value = e.0; count_in_bounds = e.1 }
+pub returns-in-Ok : goal.returns-in-Ok
+returns-in-Ok c = let a = c.args in let m = a.image.now in
+    let z = sym c.ready.ensures.0 ∙ ap row_in c.in_default.is in
+    let e = ap row_in c.in-Ok.is in (
+      sym e ∙ c.transfer.ensures.0 ∙ row-end a.h m a.at a.count (length a.room.now) (front-own a.h m z ∙ c.if-h-ne0.false),
+      c.transfer.ensures.1 ∙ ap (λ (r : ℕ). read_room r a.dead m a.at a.count a.room.now) e,
+    )
 
-pub returns : goal.returns
-returns c = λ s. let a = c.args in let m = a.image.now in
-    let f = sym c.front.ensures.0 ∙ ap row_in c.in_ok-front.was in
-    (sym (ap row_in c.in_ok-read_end.was) ∙ c.read_end.ensures.0 ∙ row-end (row_in a.h) m a.at a.count (length a.room.now) f, c.show.ensures ∙ sym (room-shown a.dead m a.at a.count a.room.now refl), tt)
+pub returns-in-Err-transfer : goal.returns-in-Err-transfer
+returns-in-Err-transfer c = let a = c.args in let m = a.image.now in
+    let z = sym c.ready.ensures.0 ∙ ap row_in c.in_default.is in
+    let e : row_in c.transfer.result ≡ c.from-in-Err-transfer.result = ap row_in c.in-Err-transfer.is ∙ sym c.from-in-Err-transfer.ensures in (
+      sym e ∙ c.transfer.ensures.0 ∙ row-end a.h m a.at a.count (length a.room.now) (front-own a.h m z ∙ c.if-h-ne0.false),
+      c.transfer.ensures.1 ∙ ap (λ (r : ℕ). read_room r a.dead m a.at a.count a.room.now) e,
+    )

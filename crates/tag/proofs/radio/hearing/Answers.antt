@@ -21,7 +21,7 @@ calling-requires-clause-call_placed c = call-placed c.in-Some.said.bytes.now c.i
 
 pub returns-in-Ok : goal.returns-in-Ok
 returns-in-Ok c = let a = c.args in let b = c.in-Some.said in
-    let e = c.in-Ok.ensures ∙ same-heard b.bytes.now a.frame.now b.bits a.n c.in-Some.ensures in
+    let e = c.in-Ok.ensures ∙ same-heard b.bytes.now a.frame.now b.bits a.n c.in-Some.ensures.says in
     c.calling.ensures ∙ heard-calling (numbers_in a.r) c.requires.fit a.image.now a.frame.now a.n a.fresh a.room.now a.s c.in-Ok.c e
 
 pub command-requires-clause-placed : goal.command-requires-clause-placed
@@ -29,6 +29,6 @@ command-requires-clause-placed c = placed c.in-Some.said.bytes.now c.in-Some.sai
 
 pub returns-in-Ok-hear : goal.returns-in-Ok-hear
 returns-in-Ok-hear c = let a = c.args in let b = c.in-Some.said in
-    let e = sym (c.in-Ok-hear.ensures ∙ same-heard b.bytes.now a.frame.now b.bits a.n c.in-Some.ensures) in
+    let e = sym (c.in-Ok-hear.ensures ∙ same-heard b.bytes.now a.frame.now b.bits a.n c.in-Some.ensures.says) in
     let code : 192 ≤ field_at b.bytes.now 0 8 = omega (arith, c.if-code-lt192.false, c.code.ensures) in
     c.command.ensures ∙ heard-command (numbers_in a.r) c.requires.fit a.image.now a.frame.now a.n a.fresh a.room.now a.s _ (said-one b.bytes.now b.bits _ code (sym c.in-Ok-hear.ensures)) e
