@@ -13,12 +13,17 @@ pub fn bare(v: Numbers, state: u8, flags: u8, round: u8, q: u8, number: u16, slo
     ensures { result ≡ bare_to v state flags round q number slot }
 {
     Numbers {
-        flags,
+        state,
+        covered: 0,
+        half: 0,
         round,
         q,
-        number,
+        flags,
+        number, // 0 where the state has none
+        cover: 0,
+        upper: 0,
         slot,
-        ..emptied(v, state)
+        ..v
     }
 }
 
@@ -26,16 +31,7 @@ pub fn bare(v: Numbers, state: u8, flags: u8, round: u8, q: u8, number: u16, slo
 pub fn emptied(v: Numbers, state: u8) -> Numbers
     ensures { result ≡ bare_to v state v.flags v.round v.q 0 0 }
 {
-    Numbers {
-        state,
-        covered: 0,
-        half: 0,
-        number: 0,
-        cover: 0,
-        upper: 0,
-        slot: 0,
-        ..v
-    }
+    bare(v, state, v.flags, v.round, v.q, 0, 0)
 }
 
 // The cover number used up.
